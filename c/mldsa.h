@@ -92,7 +92,7 @@
  *                      MLDSA_INCONSISTENT, MLDSA_SAMPLING_LIMIT; both_to_der: MLDSA_SAMPLING_LIMIT]
  *  private_key_from_der, seed_from_der
  *                      read a private key in any of the three forms, of any length, and write the expanded key, or the seed where
- *                      there is one. Refused is an expanded key that the seed beside it does not generate, or to which is_pair,
+ *                      there is one. Rejected is an expanded key that the seed beside it does not generate, or to which is_pair,
  *                      where it is alone, does not say yes. To load a key, ask for its seed, and where the result is MLDSA_NO_SEED
  *                      for its expanded key; where the set is not known, ask at each as long as the result is MLDSA_OTHER_SET.
  *                      [private_key_from_der: MLDSA_DER_CUT_SHORT, MLDSA_DER_TRAILING, MLDSA_DER_DAMAGED, MLDSA_DER_VERSION,
@@ -209,7 +209,7 @@ enum mldsa_status {
  *  MLDSA_STACK_MU                    mu_begin, mu_begin_private, mldsa_mu_update, mldsa_mu_finish; it is enough for mldsa_version,
  *                                    mldsa_check_pre_hash and mldsa_text_of too
  *
- * glibc gives a thread what `ulimit -s` says, mostly 8 MiB. musl gives it 128 KiB, on which keygen, sign and others end the program
+ * glibc gives a thread what `ulimit -s` says, mostly 8 MiB. musl gives it 128 KiB, on which a call that needs more ends the program
  * by SIGSEGV: there give a thread more when it is made, with these attributes.
  *
  *     pthread_attr_t attributes;
@@ -244,17 +244,17 @@ enum mldsa_status {
 #define MLDSA44_PREPARED_PUBLIC_KEY_LEN 17760
 #define MLDSA44_PREPARED_PRIVATE_KEY_LEN 18944
 
-#define MLDSA44_STACK_KEYGEN 116736
-#define MLDSA44_STACK_SIGN 138240
-#define MLDSA44_STACK_VERIFY 58368
+#define MLDSA44_STACK_KEYGEN 57344
+#define MLDSA44_STACK_SIGN 116736
+#define MLDSA44_STACK_VERIFY 55296
 #define MLDSA44_STACK_PUBLIC_KEY 133120
 #define MLDSA44_STACK_CHECK 95232
 #define MLDSA44_STACK_WHOLE 117760
 #define MLDSA44_STACK_PAIR 121856
-#define MLDSA44_STACK_PREPARE_PUBLIC_KEY 51200
-#define MLDSA44_STACK_VERIFY_PREPARED 58368
+#define MLDSA44_STACK_PREPARE_PUBLIC_KEY 49152
+#define MLDSA44_STACK_VERIFY_PREPARED 55296
 #define MLDSA44_STACK_PREPARE_PRIVATE_KEY 108544
-#define MLDSA44_STACK_SIGN_PREPARED 135168
+#define MLDSA44_STACK_SIGN_PREPARED 116736
 
 MLDSA_ANSWERS MLDSA_ARRAYS(1, 2) /* stack: MLDSA44_STACK_KEYGEN */
 uint32_t mldsa44_keygen(const uint8_t *seed, size_t seed_len, uint8_t *public_key, size_t public_key_len,
@@ -338,17 +338,17 @@ uint32_t mldsa44_verify_mu_prepared(const uint8_t *prepared_public_key, size_t p
 #define MLDSA65_PREPARED_PUBLIC_KEY_LEN 32736
 #define MLDSA65_PREPARED_PRIVATE_KEY_LEN 34752
 
-#define MLDSA65_STACK_KEYGEN 158720
-#define MLDSA65_STACK_SIGN 179200
-#define MLDSA65_STACK_VERIFY 72704
+#define MLDSA65_STACK_KEYGEN 73728
+#define MLDSA65_STACK_SIGN 153600
+#define MLDSA65_STACK_VERIFY 68608
 #define MLDSA65_STACK_PUBLIC_KEY 185344
 #define MLDSA65_STACK_CHECK 128000
 #define MLDSA65_STACK_WHOLE 161792
 #define MLDSA65_STACK_PAIR 166912
-#define MLDSA65_STACK_PREPARE_PUBLIC_KEY 82944
-#define MLDSA65_STACK_VERIFY_PREPARED 70656
+#define MLDSA65_STACK_PREPARE_PUBLIC_KEY 80896
+#define MLDSA65_STACK_VERIFY_PREPARED 66560
 #define MLDSA65_STACK_PREPARE_PRIVATE_KEY 147456
-#define MLDSA65_STACK_SIGN_PREPARED 176128
+#define MLDSA65_STACK_SIGN_PREPARED 153600
 
 MLDSA_ANSWERS MLDSA_ARRAYS(1, 2) /* stack: MLDSA65_STACK_KEYGEN */
 uint32_t mldsa65_keygen(const uint8_t *seed, size_t seed_len, uint8_t *public_key, size_t public_key_len,
@@ -432,17 +432,17 @@ uint32_t mldsa65_verify_mu_prepared(const uint8_t *prepared_public_key, size_t p
 #define MLDSA87_PREPARED_PUBLIC_KEY_LEN 60000
 #define MLDSA87_PREPARED_PRIVATE_KEY_LEN 62240
 
-#define MLDSA87_STACK_KEYGEN 210944
-#define MLDSA87_STACK_SIGN 245760
-#define MLDSA87_STACK_VERIFY 87040
-#define MLDSA87_STACK_PUBLIC_KEY 262144
+#define MLDSA87_STACK_KEYGEN 90112
+#define MLDSA87_STACK_SIGN 209920
+#define MLDSA87_STACK_VERIFY 81920
+#define MLDSA87_STACK_PUBLIC_KEY 253952
 #define MLDSA87_STACK_CHECK 178176
 #define MLDSA87_STACK_WHOLE 223232
 #define MLDSA87_STACK_PAIR 232448
-#define MLDSA87_STACK_PREPARE_PUBLIC_KEY 125952
-#define MLDSA87_STACK_VERIFY_PREPARED 86016
+#define MLDSA87_STACK_PREPARE_PUBLIC_KEY 124928
+#define MLDSA87_STACK_VERIFY_PREPARED 80896
 #define MLDSA87_STACK_PREPARE_PRIVATE_KEY 204800
-#define MLDSA87_STACK_SIGN_PREPARED 240640
+#define MLDSA87_STACK_SIGN_PREPARED 209920
 
 MLDSA_ANSWERS MLDSA_ARRAYS(1, 2) /* stack: MLDSA87_STACK_KEYGEN */
 uint32_t mldsa87_keygen(const uint8_t *seed, size_t seed_len, uint8_t *public_key, size_t public_key_len,
@@ -523,17 +523,17 @@ uint32_t mldsa87_verify_mu_prepared(const uint8_t *prepared_public_key, size_t p
 #define MLDSA44_PUBLIC_KEY_DER_LEN 1334
 #define MLDSA44_PRIVATE_KEY_DER_LEN 2588
 #define MLDSA44_BOTH_DER_LEN 2626
-#define MLDSA44_STACK_DER 126976
+#define MLDSA44_STACK_DER 124928
 
 #define MLDSA65_PUBLIC_KEY_DER_LEN 1974
 #define MLDSA65_PRIVATE_KEY_DER_LEN 4060
 #define MLDSA65_BOTH_DER_LEN 4098
-#define MLDSA65_STACK_DER 172032
+#define MLDSA65_STACK_DER 169984
 
 #define MLDSA87_PUBLIC_KEY_DER_LEN 2614
 #define MLDSA87_PRIVATE_KEY_DER_LEN 4924
 #define MLDSA87_BOTH_DER_LEN 4962
-#define MLDSA87_STACK_DER 238592
+#define MLDSA87_STACK_DER 235520
 
 MLDSA_ANSWERS MLDSA_ARRAYS(1, 1) /* stack: MLDSA44_STACK_DER */
 uint32_t mldsa44_public_key_to_der(const uint8_t *public_key, size_t public_key_len,

@@ -1,4 +1,4 @@
-// ML-DSA (FIPS 204) at the parameter sets 44, 65 and 87, over a WebAssembly module whose code is proved (docs/SPEC.md).
+// ML-DSA (FIPS 204) at the parameter sets 44, 65 and 87, over a WebAssembly module whose source is proved (docs/SPEC.md).
 // This file is ordinary JavaScript over it: it copies arrays into the module's memory and back, and is tested, not
 // proved. It says nothing of where the module is: that do mldsa.js and inline.js.
 import { atMost, isBytes, isNode, ofNode, webCrypto } from "./engine.js";
@@ -66,7 +66,7 @@ const ABOUT = {
     7: ["oid"],
     8: ["oid"],
     9: ["digest", atMostBytes(1024)],
-    // The library answers this for FUNCTIONS alone.
+    // The library returns this for FUNCTIONS alone.
     10: ["digest", ({ oid }) => `not ${FUNCTIONS.find(([, arc]) => arc === oid[oid.length - 1])[2]}`],
 };
 
@@ -74,7 +74,7 @@ const UNSUPPORTED =
     "this engine has no WebAssembly with bulk memory and sign extension: " +
     "Chrome and Edge have it from 85, Firefox from 90, Safari from 15, Node from 16";
 
-/** A call that the library refused. */
+/** A call that the library rejected. */
 export class MlDsaError extends Error {
     constructor(status, detail) {
         super((TEXTS[status] ?? "no answer of this library") + (detail === undefined ? "" : `: ${detail}`));

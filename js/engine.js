@@ -20,7 +20,7 @@ export function isBytes(value) {
     return tagOf.call(value) === "Uint8Array";
 }
 
-/** Refuses more arguments than a call takes. */
+/** Rejects more arguments than a call takes. */
 export function atMost(call, words, count) {
     if (words.length > count) {
         const most = `${count} argument${count === 1 ? "" : "s"}`;

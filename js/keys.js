@@ -1,5 +1,5 @@
 // Keys in files, as `mlsign` and OpenSSL write them: PEM in the strict form of RFC 7468, around the DER that the library
-// reads and writes (RFC 9881). What is read has one spelling: another text, however near, is refused, and by the
+// reads and writes (RFC 9881). What is read has one spelling: another text, however near, is rejected, and by the
 // sentences of `mlsign` but where what was found is named.
 import { atMost, isBytes, webCrypto } from "./engine.js";
 
@@ -21,7 +21,7 @@ export class KeyFileError extends Error {
     }
 }
 
-/** Refuses other arguments than what `load` gives, and a file. */
+/** Rejects other arguments than what `load` gives, and a file. */
 function checkReading(call, words) {
     const [sets, file] = words;
     atMost(call, words, 2);
@@ -33,7 +33,7 @@ function checkReading(call, words) {
     }
 }
 
-/** Refuses other arguments than a parameter set, and a key. */
+/** Rejects other arguments than a parameter set, and a key. */
 function checkWriting(call, words, name) {
     const [mlDsa, key] = words;
     atMost(call, words, 2);

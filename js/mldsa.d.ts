@@ -43,7 +43,10 @@ export interface Random {
     random?: Uint8Array;
 }
 
-/** A message that is hashed in pieces. Both calls throw a `TypeError` for other arguments. */
+/**
+ * A message that is hashed in pieces. Both calls throw a `TypeError` for other arguments, and a `RangeError` where the
+ * module's memory can't grow.
+ */
 export interface MessageHasher {
     /**
      * Adds the next piece, of any length, and gives the hasher itself. Small ones are copied, and hashed together.
@@ -78,14 +81,14 @@ export interface MlDsa {
      * Makes the key pair of a seed of 32 bytes, or of one that `crypto.getRandomValues` draws (Algorithm 1).
      * @example
      * const { publicKey, privateKey } = mlDsa65.keygen();
-     * @throws `Error` without a seed where the engine has no `crypto.getRandomValues`.
+     * @throws `MlDsaError` 15; `Error` without a seed where the engine has no `crypto.getRandomValues`.
      */
     keygen(seed?: Uint8Array): KeyPair;
     /**
      * The public key that belongs to a private one.
      * @example
      * mlDsa65.publicKey(privateKey); // publicKey
-     * @throws `MlDsaError` 14 if the bytes are no private key.
+     * @throws `MlDsaError` 14 if the bytes are no private key, or 15.
      */
     publicKey(privateKey: Uint8Array): Uint8Array;
     /**
@@ -93,7 +96,7 @@ export interface MlDsa {
      * @example
      * const signature = mlDsa65.sign(privateKey, message, { context });
      * @throws `MlDsaError` 4 if the context has more than 255 bytes, 14 if the bytes are no private key, 13 or 15;
-     * `Error` as of `keygen`, without `random`.
+     * `Error` without `random`, as of `keygen` without a seed.
      */
     sign(privateKey: Uint8Array, message: Uint8Array, options?: Context & Random): Uint8Array;
     /**
@@ -183,7 +186,7 @@ export interface MlDsa {
      * The public key of its DER.
      * @example
      * mlDsa65.publicKeyFromDer(mlDsa65.publicKeyToDer(publicKey)).length; // 1952
-     * @throws `MlDsaError` 18 to 23 for other bytes, 24 for a key of another set.
+     * @throws `MlDsaError` 18 to 20, 22 or 23 for other bytes, 24 for a key of another set.
      */
     publicKeyFromDer(der: Uint8Array): Uint8Array;
     /**
@@ -241,7 +244,8 @@ export type Source =
  * file, or has it inside where it is bundled for browsers, and `mldsa/inline` has it inside everywhere.
  * @example
  * const { mlDsa44, mlDsa65, mlDsa87 } = await load();
- * @throws `Error` where `isSupported` is false, or the module is not found.
+ * @throws `Error` where `isSupported` is false, or the module is not found; `TypeError` for another source, text that is
+ * no URL, a second argument, or from `fetch`; `WebAssembly.CompileError` for bytes that are no module.
  */
 export function load(
     source?: Source | Promise<Source>,

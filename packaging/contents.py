@@ -19,7 +19,9 @@ X86, ARM = "x86_64", "aarch64"
 MULTIARCH = "x86_64-linux-gnu"
 PAGES = ("CHANGELOG.md", "LICENSE", "README.md", "SECURITY.md")
 # What pages say of a checkout, and what is true of a release.
-RELEASED = {"README.md": ("; none is published yet", ""), "CHANGELOG.md": (", not released yet", ", {day}")}
+RELEASED = {"README.md": ("; none is published yet", ""), "CHANGELOG.md": (", not released yet", ", {day}"),
+            "SECURITY.md": ("Use a private security advisory of the repository that you have this from; otherwise open "
+                            "an issue without details.", "{flaws}")}
 
 
 class Facts:
@@ -221,6 +223,9 @@ def page(facts, name):
     if before not in said:
         sys.exit(f"{name} no longer says '{before}', which no package may say: mend RELEASED of packaging/contents.py")
 
+    flaws = facts.publisher["flaws"]
+    after = after.format(day=facts.day, flaws=f"Report it in private ({flaws})." if flaws else before)
+
     def link(found):
         words, to = found.groups()
         file = to.partition("#")[0]
@@ -228,7 +233,7 @@ def page(facts, name):
             return found[0]
         return f"`{file}` of the source" if words == file.rpartition("/")[2] else f"{words} (`{file}` of the source)"
 
-    said = re.sub(r"^!\[.*\]\(.*\)\n\n", "", said.replace(before, after.format(day=facts.day)), flags=re.M)
+    said = re.sub(r"^!\[.*\]\(.*\)\n\n", "", said.replace(before, after), flags=re.M)
     return re.sub(r"\[([^][]*)\]\(([^()]*)\)", link, said)
 
 

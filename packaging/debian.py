@@ -8,8 +8,9 @@ LIBRARY = f"usr/lib/{contents.MULTIARCH}"
 # Debian's amd64 has processors below x86-64-v2: this package installs on none of them.
 PROCESSOR = "sse4.2-support"
 LONG = """ ML-DSA is the signature scheme of FIPS 204, at the parameter sets 44, 65
- and 87. The code is proved to meet its contracts, to have no undefined
- behaviour, and to return; /usr/share/doc/{package}/PROVENANCE says by what.
+ and 87. Its code in Rattle is proved to meet its contracts, to have no
+ undefined behaviour, and to return; /usr/share/doc/{package}/PROVENANCE
+ says by what.
 """
 CHANGES = """mldsa ({version}) unstable; urgency=medium
 

@@ -295,7 +295,7 @@ def overview(every, header):
         f"## NAME\n\nmldsa - {what}\n\n{LIBRARY}## SYNOPSIS\n\n{verbatim(lines)}",
         f"## DESCRIPTION\n\n{prose(above[1:])}{prose(below) if any(below) else ''}",
         f"## CALLS\n\n{calls}\n\n{listed((f'`{family.page}`(3)', summary(family.text)) for family in every)}",
-        f"## ANSWERS\n\n{listed((f'`{name}` ({value})', words) for name, value, words in statuses(header))}",
+        f"## RETURN VALUE\n\n{listed((f'`{name}` ({value})', words) for name, value, words in statuses(header))}",
         f"## LENGTHS\n\nIn bytes:\n\n{constants(r'MLDSA[0-9]*_[A-Z0-9_]+_LEN')}",
         f"## STACK\n\nThe bytes of stack that a thread has to have left:\n\n{constants(r'MLDSA[0-9]*_STACK_[A-Z_]+')}",
         f"{prose(threads)}",

@@ -2,6 +2,7 @@
 fresh HOME, a PATH of /usr/bin and /bin, and, where this may be done, with the folders of the repository and of the kit
 hidden."""
 import functools
+import glob
 import gzip
 import hashlib
 import os
@@ -28,6 +29,8 @@ FIRST: dict[str, tuple[tuple[str, ...], str, str]] = {
     "python": (("python3", "pip"), "first.py", "\nthe signature is invalid\n"),
     "rust/fips204": (("cargo",), "src/main.rs", ""),
 }
+# How the names of packages end.
+PACKED = (".tar.gz", ".crate", ".deb", ".tgz", ".whl")
 # What a network may want of the environment.
 NETWORK = ("SSL_CERT_FILE", "SSL_CERT_DIR", "http_proxy", "https_proxy", "HTTPS_PROXY", "no_proxy")
 MANIFEST = """[package]
@@ -70,7 +73,7 @@ class Room:
         self.home.mkdir()
         shutil.copytree(dist, self.dist)
         self.front = self.hide()
-        # A row of recorded answers of ML-DSA-65, with a context and a message, and the sums of the keys and the
+        # A row of recorded values of ML-DSA-65, with a context and a message, and the sums of the keys and the
         # signature.
         self.row = next(row[1:8] for row in recorded_rows()
                         if row[0] == "65" and row[3] and row[4] and set(row[2]) != {"0"})
@@ -98,7 +101,7 @@ class Room:
         return done.stdout
 
     def answers(self, *words, **more):
-        """Runs a program of answers, whose keys and signature have to have the recorded sums."""
+        """Runs a program of `packaging/tries/`, whose keys and signature have to have the recorded sums."""
         printed = self.run(*words, *self.row[:4], **more).split()
         expect(words[0], [hashlib.sha256(bytes.fromhex(line)).hexdigest() for line in printed], self.row[4:7])
 
@@ -183,6 +186,38 @@ def lacks(*tools):
 
 def all_paths(folder):
     return sorted(str(path.relative_to(folder)) for path in folder.rglob("*"))
+
+
+def lines_of_readme():
+    """The lines of README under 'Getting it'."""
+    page = (TOP / "README.md").read_text(encoding="utf-8").partition("## Getting it\n")[2].partition("\n## ")[0]
+    return [line.strip() for line in page.splitlines() if line.startswith("    ")]
+
+
+def lines_of_page(name):
+    """The lines of the first signature of a page."""
+    page = (TOP / name / "README.md").read_text(encoding="utf-8").partition("## A first signature\n")[2]
+    shown = re.search(r"^~~~text\n((?:.*\n)*?)~~~$|((?:^    .*\n)+)", page, re.M)
+    return (shown[1] or shown[2]).splitlines()
+
+
+def sums(folder):
+    """The files that SHA256SUMS lists."""
+    return re.findall(r"^\w{64}  (.+)$", (folder / "SHA256SUMS").read_text(encoding="utf-8"), re.M)
+
+
+def plant(folder, version):
+    """Puts beside each package another one, which no list has and nothing can read."""
+    for name in sums(folder):
+        if version in name:
+            (folder / name.replace(version, "9.9.9")).write_text("not of this release\n", encoding="utf-8")
+
+
+def taken(lines, folder):
+    """The packages that lines name, as a shell finds them in a folder."""
+    words = [pathlib.PurePath(word).name for line in lines for word in line.partition(" # ")[0].split()]
+    named = [word for word in words if word.endswith(PACKED) or "*" in word]
+    return {name for word in named for name in glob.glob(word, root_dir=folder) or [word]}
 
 
 def wants(*tools, short=True, own=lambda room: []):
@@ -351,7 +386,7 @@ class Tries(unittest.TestCase):
         top = room.unpacked("mldsa-*-x86_64-linux.tar.gz", "manual")
         if "sign and verify files" not in room.run("man", "-M", top / "share/man", "1", "mlsign"):
             raise Failed("man mlsign shows no page")
-        # Of some pages what they have to say: the targets of CMake, what musl's threads want, each answer.
+        # Of some pages what they have to say: the targets of CMake, what musl's threads want, each status.
         wanted: dict[str, list[str]] = {
             "mldsa65_sign": [], "mldsa44_hash_verify": [], "mldsa_mu_finish": [], "mldsa_text": ["mldsa_text_of"],
             "mldsa": ["mldsa::static", "mldsa::shared", "pthread_attr_setstacksize"],
@@ -400,6 +435,13 @@ class Tries(unittest.TestCase):
         for file in folder.glob("*.deb"):
             file.unlink()
         checked(0, "as it was made")
+        # Packages that are in no list are not noticed: so pages name each that they take.
+        plant(folder, room.version)
+        checked(0, "with packages that are in no list")
+        for name in ("README.md", *FIRST):
+            lines = lines_of_page(name) if name in FIRST else lines_of_readme()
+            expect(f"whether {name} takes packages", bool(taken(lines, folder)), True)
+            expect(f"what {name} takes that is in no list", taken(lines, folder) - set(sums(folder)), set())
         content = archive.read_bytes()
         archive.write_bytes(content + b"\0")
         checked(1, "an archive that was changed")
@@ -424,9 +466,7 @@ class Tries(unittest.TestCase):
     def test_in_readme(self, room):
         """The lines of README under 'Getting it', in the folder of the files, but those that begin with sudo; an mlsign
         is there, and FINGERPRINT stands for the fingerprint of release.pub."""
-        page = (TOP / "README.md").read_text(encoding="utf-8").partition("## Getting it\n")[2].partition("\n## ")[0]
-        lines = [line.strip().replace("FINGERPRINT", room.fingerprint()) for line in page.splitlines()
-                 if line.startswith("    ")]
+        lines = [line.replace("FINGERPRINT", room.fingerprint()) for line in lines_of_readme()]
         no_npm = lacks("npm") or not room.has_node
         skipped = {"sudo", *(["npm"] if no_npm else []), *missing("cargo"),
                    *(["openssl"] if openssl_version() < (3, 5) else [])}
@@ -435,6 +475,7 @@ class Tries(unittest.TestCase):
         run += [] if lacks("man") else ["man -w mlsign mldsa65_sign"]
         folder = room.path / "in-readme"
         shutil.copytree(room.dist, folder)
+        plant(folder, room.version)
         given = {"path": "/usr/bin:/bin", **room.for_cargo()}
         given["path"] = f"{room.mlsign.parent}:{given['path']}"
         said = room.run("sh", "-e", "-c", "\n".join(run), cwd=folder, **given)
@@ -452,9 +493,7 @@ class Tries(unittest.TestCase):
     def test_in_pages(self, room):
         """The first signature of each page, by its lines and its code, in the folder of the files."""
         for name, (tools, place, wanted) in FIRST.items():
-            page = (TOP / name / "README.md").read_text(encoding="utf-8").partition("## A first signature\n")[2]
-            shown = re.search(r"^~~~text\n((?:.*\n)*?)~~~$|((?:^    .*\n)+)", page, re.M)
-            lines = (shown[1] or shown[2]).splitlines()
+            lines = lines_of_page(name)
             lacking = lacks(*tools) if tools != ("cargo",) else missing(*tools)
             if lacking or room.short and name == "c/portable":
                 why = f"there is no {', '.join(lacking)}" if lacking else "it compiles for a minute"
@@ -462,8 +501,10 @@ class Tries(unittest.TestCase):
                 continue
             folder = room.path / f"in-pages-{name.replace('/', '-')}"
             shutil.copytree(room.dist, folder)
+            plant(folder, room.version)
             if place:
                 code = folder / "the-code"
+                page = (TOP / name / "README.md").read_text(encoding="utf-8").partition("## A first signature\n")[2]
                 code.write_text(re.search(r"^```\w+\n(.*?)^```$", page, re.M | re.S)[1], encoding="utf-8")
                 lines.insert(-1, f"cp {code} {place}")
             # pip asks no registry, and puts the package into the folder that is HOME here.

@@ -20,7 +20,7 @@ LIBC = (2, 17)
 METADATA = """Metadata-Version: 2.1
 Name: mldsa
 Version: {version}
-Summary: ML-DSA signatures (FIPS 204), by a library whose code is proved
+Summary: ML-DSA signatures (FIPS 204): tested Python over a library compiled from proved code
 License: MIT OR Apache-2.0
 License-File: LICENSE
 Classifier: Operating System :: POSIX :: Linux
@@ -28,7 +28,7 @@ Classifier: Programming Language :: Python :: 3
 Classifier: Topic :: Security :: Cryptography
 Classifier: Typing :: Typed
 Requires-Python: >=3.8
-Description-Content-Type: text/markdown
+{links}Description-Content-Type: text/markdown
 
 {readme}"""
 WHEEL = """Wheel-Version: 1.0
@@ -100,7 +100,9 @@ def wheel(facts, shared, system, provenance=None):
     tags = [f"manylinux_{LIBC[0]}_{LIBC[1]}_{system}", f"manylinux2014_{system}"]
     about = f"mldsa-{facts.version}.dist-info"
     files = {**sources(), "mldsa/libmldsa.so": shared.read_bytes()}
-    described = METADATA.format(version=facts.version, readme=text("python/README.md"))
+    # Who publishes it, if that is said.
+    links = "".join(f"Project-URL: {field.capitalize()}, {said}\n" for field, said in facts.links().items())
+    described = METADATA.format(version=facts.version, links=links, readme=text("python/README.md"))
     files[f"{about}/METADATA"] = described.encode()
     files[f"{about}/WHEEL"] = WHEEL.format(tags="".join(f"Tag: py3-none-{it}\n" for it in tags)).encode()
     files[f"{about}/LICENSE"] = text("LICENSE").encode()

@@ -1,19 +1,23 @@
-"""Signatures and keys at the edge of each rule that refuses them, evaluated by the definitions of specs/.
+"""Signatures and keys at the edge of each rule that rejects them, evaluated by the definitions of specs/.
 
-The stream in SHAKE256's place is a weak one: it gives zeros whatever it is given. So every input has the same mu, and
-c_tilde is zeros under every key, for every z and every hint: what is refused is refused by the rule of its name alone,
-and two inputs that one signature is accepted for collide.
+The XOF in SHAKE256's place is a weak one: it gives zeros whatever it is given. So every input has the same mu, and
+c_tilde is zeros under every key, for every z and every hint: what is rejected is so by the rule of its name alone,
+and two inputs that one signature is accepted for collide. Where sampling comes to its limit, bytes FF and
+then zeros stand in the place of one of the two XOFs.
 """
 from evaluate import Function, Record
 from recorded import scheme
 
-# FIPS 204, Tables 1 and 2: gamma1, beta, omega, k, l, eta, and the bytes of c_tilde.
+# FIPS 204, Tables 1 and 2: tau, gamma1, beta, omega, k, l, eta, and the bytes of c_tilde.
 SETS = {
-    "44": (2**17, 78, 80, 4, 4, 2, 32),
-    "65": (2**19, 196, 55, 6, 5, 4, 48),
-    "87": (2**19, 120, 75, 8, 7, 2, 64),
+    "44": (39, 2**17, 78, 80, 4, 4, 2, 32),
+    "65": (49, 2**19, 196, 55, 6, 5, 4, 48),
+    "87": (60, 2**19, 120, 75, 8, 7, 2, 64),
 }
 ZEROS = (0,) * 4096
+# So many triples of the output are read for an entry of the matrix, and so many bytes behind the first eight for a
+# challenge.
+READ = len(ZEROS) // 4
 
 
 def packed(fields, width):
@@ -23,11 +27,11 @@ def packed(fields, width):
 
 
 class Edges:
-    """The set of a number, with the weak stream, a public key of zeros, and what is made for them."""
+    """The parameter set of a number, with the weak XOF, a public key of zeros, and what is made for them."""
 
     def __init__(self, program, number):
         self.program, self.number, self.wrong = program, number, []
-        self.gamma1, self.beta, self.omega, self.k, self.l, self.eta, self.c_tilde = SETS[number]
+        self.tau, self.gamma1, self.beta, self.omega, self.k, self.l, self.eta, self.c_tilde = SETS[number]
         self.said = scheme(program, number)
         t1 = tuple(Record({"0": (0,) * 256}) for _ in range(self.k))
         self.said("p", H=Function(lambda _: ZEROS, 1, (), "weak"))
@@ -56,8 +60,8 @@ class Edges:
         if bool(self.said(words, **given)) != wanted:
             self.wrong.append(f"{self.number}, {what}")
 
-    def judged(self, what, wanted, signature, more="input"):
-        self.wants(what, wanted, f"VerifiesInput p H G pk signature {more}", signature=tuple(signature))
+    def judged(self, what, wanted, signature, more="input", **given):
+        self.wants(what, wanted, f"VerifiesInput p H G pk signature {more}", signature=tuple(signature), **given)
 
     def norms(self):
         bound, last = self.gamma1 - self.beta, 256 * self.l - 1
@@ -87,6 +91,19 @@ class Edges:
                 given = self.said(form, text=(1,) * 32, oid=(6, 1, 1))
                 self.said("p", other=given)
                 self.judged(f"{form} of {size} bytes", size < 256, self.signature(), "other")
+
+    def limits(self):
+        """Bytes FF, which sampling passes over, before zeros, which it keeps: the matrix (of G) or the challenge (of H)
+        is just there, lacks one value, or would never be there. Nothing else keeps the signature from being valid."""
+        for name, what, most, size in (("G", "matrix", READ - 256, 3), ("H", "challenge", 8 + READ - self.tau, 1)):
+            usual = self.said(name)
+            signature = self.signature(c_tilde=b"\xff" * self.c_tilde if name == "H" else b"")
+            for passed in (most, most + 1, len(ZEROS)):
+                output = ((255,) * size * passed + ZEROS)[: len(ZEROS)]
+                xof = Function(lambda _, output=output: output, 1, (), f"{passed} of FF for {name}")
+                self.judged(f"{what} behind {passed} of FF", passed == most, signature, **{name: xof})
+            self.wants(f"collision without a {what}", False, "NamesCollision p H G pk signature m n", m=(1,), n=(2,))
+            self.said("p", **{name: usual})
 
     def keys(self):
         """Private keys with a coefficient at -eta and beyond."""
@@ -118,7 +135,7 @@ class Edges:
 def edges(program, number, first=False):
     """What the definitions say otherwise than FIPS 204 does, at the edges of its rules; or the first of that."""
     made = Edges(program, number)
-    for part in (made.keys, made.rules, made.spellings, made.norms, made.collisions):
+    for part in (made.keys, made.rules, made.spellings, made.norms, made.collisions, made.limits):
         if not (first and made.wrong):
             part()
     return made.wrong

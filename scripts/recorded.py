@@ -1,10 +1,11 @@
 """Keys, signatures and verdicts by the definitions of specs/, over SHAKE256 and SHAKE128, for what vectors/ records.
 
-Fronts have 4096 bytes, and are those of `hashlib`, to which `sponge_stands` compares the definitions of `crates/shake`.
+XOFs have outputs of 4096 bytes, those of `hashlib`, to which `sponge_stands` compares the definitions of
+`crates/shake`.
 For speed the values of `product` and `inverse_transform` at all 256 places are computed at once, by the sums of their
 definitions; nothing else is replaced. Keys and signatures are read here, field by field, and the definitions say
 whether the bytes are those of what was read (`READERS`). Beside these: the public key that is derived of the private
-one, prepared keys, the set of its own numbers, and the fronts of the streams of this repository.
+one, prepared keys, the parameter set of its own numbers, and the outputs of the XOFs of this repository.
 """
 import hashlib
 import operator
@@ -103,7 +104,7 @@ def hashes(program, row):
 
 
 def answer(program, number, call, *arguments):
-    """The answer of the definitions to a call of a published case: bytes, a verdict, or a refusal."""
+    """The result of a call of a published case by the definitions: bytes, a verdict, or an error."""
     said, given = scheme(program, number), [tuple(it) for it in arguments]
     if call == "keygen":
         pair = said("generated p H G xi", xi=given[0])
@@ -208,7 +209,7 @@ def attempts_stand(program):
 
 
 def fronts(said, text):
-    """Whether the streams of this repository have the blocks that `hashlib` gives, and the shorter are prefixes of the
+    """Whether the XOFs of this repository have the blocks that `hashlib` gives, and the shorter are prefixes of the
     longer."""
 
     def blocks(hash_, count):

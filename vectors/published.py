@@ -3,7 +3,7 @@ was published.
 
 A case is an object a line: `of` is its kind and `set` its parameter set; `do` says which calls it makes. What is given
 is in hex. Published are the SHA-256 of keys and signatures, whether a signature is accepted, or a null in the place of
-a signature that must be refused.
+a signature that must be rejected.
 """
 import hashlib
 import json
@@ -24,14 +24,14 @@ COUNTS = {
     "HashML-DSA": 120,
 }
 PUBLISHED = ("public_key_sha256", "private_key_sha256", "signature_sha256", "accepted")
-# Of the cases with a key in a file: how many there are, in how many files, and how many files are refused.
+# Of the cases with a key in a file: how many there are, in how many files, and how many files are rejected.
 IN_FILES = {"public keys": (239, 41, 6), "seeds": (176, 25, 0), "expanded keys": (190, 39, 12)}
 # Bytes of a public key (FIPS 204, Table 2).
 PUBLIC_KEY_LENGTHS = {"44": 1312, "65": 1952, "87": 2592}
 
 
 class Refused:
-    """The answer of a call that was refused, with the words that it came with."""
+    """The result of a call that returned an error, with the words that it came with."""
 
     def __init__(self, words):
         self.words = words
@@ -52,7 +52,7 @@ class Case:
 
     @property
     def is_refusal(self):
-        """Whether the case is one that has to be refused."""
+        """Whether the case is one that has to be rejected."""
         return self.published.get("accepted") is False or self.published.get("signature_sha256", "") is None
 
     def but(self, given=None, published=None):
@@ -93,7 +93,7 @@ def cases(*forms):
 
 def keys_in_files(chosen, form):
     """Wycheproof's cases with a key in a file of a form, which is read, used, and written again as it was: the public
-    keys and seeds that it has in DER, and its expanded keys, which are put into DER here. A file is refused where its
+    keys and seeds that it has in DER, and its expanded keys, which are put into DER here. A file is rejected where its
     public key has another length than the set's, or where nothing but its expanded key can be why none signs."""
     found, files = [], {kind: [] for kind in IN_FILES}
     for case in chosen:
@@ -126,7 +126,7 @@ def sha256(data):
 
 
 def sum_of(answer):
-    """The sum of the first array of an answer, and None of a refusal."""
+    """The sum of the first array of a result, and None of an error."""
     return None if isinstance(answer, Refused) else sha256(answer[0])
 
 
@@ -143,7 +143,7 @@ def calls_of_file(part, form, g):
 
 
 def calls(case):
-    """Makes the calls of a case, one after another: yields each as its name and arguments, is sent its answer (a tuple
+    """Makes the calls of a case, one after another: yields each as its name and arguments, is sent its result (a tuple
     of bytes, a truth value, or `Refused`), and returns what came out of all, by the names of what was published."""
     g = case.given
     if "file" in g:
@@ -198,7 +198,7 @@ def by_mu(call, *arguments):
 
 
 def outcomes(chosen, ask):
-    """What came out of each case. `ask` takes pairs of a set and a call, and gives the answers in their order; all
+    """What came out of each case. `ask` takes pairs of a set and a call, and gives the results in their order; all
     first calls are asked at once, then all second ones, and so on."""
     found, waiting = [None] * len(chosen), []
 
@@ -236,7 +236,7 @@ def changed(text):
 
 def changes(chosen, found):
     """Changes that `wrong` has to notice, each as a case, what is changed, and what `wrong` says: for a case of each
-    kind and each published value one bit of it, and for each case that must be refused the outcome that it was
+    kind and each published value one bit of it, and for each case that must be rejected the outcome that it was
     accepted."""
     tried, seen = [], set()
     for case, outcome in zip(chosen, found):
@@ -252,7 +252,7 @@ def changes(chosen, found):
 
 
 def with_a_bit_changed(chosen):
-    """A case of each kind and set, of those that must not be refused, with one bit of what is given changed: none may
+    """A case of each kind and set, of those that must not be rejected, with one bit of what is given changed: none may
     have the outcome that was published."""
     first = {}
     for case in chosen:

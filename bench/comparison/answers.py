@@ -1,4 +1,4 @@
-"""Compares what both programs answer."""
+"""Compares what both programs return."""
 import os
 import random
 import tempfile
@@ -14,8 +14,8 @@ COLUMNS = ["set", "command", "cases", "equal", "done or `yes`", "`no`", "refusal
 
 
 def by_a_limit(case, ours, rust):
-    """Whether a limit on sampling decides, which the Rust hasn't: under constant bytes FF, where each sampler refuses
-    every byte, ours refuses by name, or accepts nothing, while the Rust has no answer, or needs no sampling for its
+    """Whether a limit on sampling decides, which the Rust hasn't: under constant bytes FF, where each sampler rejects
+    every byte, ours names the error, or accepts nothing, while the Rust has no result, or needs no sampling for its
     own."""
     if case.words[0] != "fillff" or ours is None or ours[2]:
         return False
@@ -40,7 +40,7 @@ def shown(answer):
 
 
 def report(case, ours, rust):
-    """Prints a case that differs, with its input as a file and both answers."""
+    """Prints a case that differs, with its input as a file and both results."""
     handle, path = tempfile.mkstemp(prefix="different-")
     with os.fdopen(handle, "wb") as file:
         file.write(case.data)
@@ -50,7 +50,7 @@ def report(case, ours, rust):
 
 
 def compared(programs, cases, workers):
-    """Gives each case with both answers."""
+    """Gives each case with both results."""
 
     def both(case):
         seconds = LOOPING if case.loops else PATIENCE
@@ -61,7 +61,7 @@ def compared(programs, cases, workers):
 
 
 def table(programs, sets, count, seed, jobs):
-    """Prints the table of answers, and gives how many cases differ."""
+    """Prints the table of results, and gives how many cases differ."""
     different = 0
     print(f"| {' | '.join(COLUMNS)} |\n|---{'|---' * (len(COLUMNS) - 1)}|", flush=True)
     with ThreadPoolExecutor(jobs) as workers:

@@ -93,7 +93,7 @@ def built(folder, room, program):
 
 def run(words, data, piped, seconds):
     """Runs a command on these bytes, from a pipe or a file: its status and what it writes to both its outputs, or None
-    where it has no answer in time."""
+    where it has no result in time."""
     try:
         if piped:
             done = subprocess.run(words, input=data, capture_output=True, timeout=seconds, check=False)

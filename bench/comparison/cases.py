@@ -12,7 +12,7 @@ LONGEST_LINE = 2097152
 
 
 class Pool:
-    """What the Rust has answered at a set, of which later cases are made."""
+    """What the Rust has returned at a set, of which later cases are made."""
 
     def __init__(self):
         self.pairs = []
@@ -268,7 +268,7 @@ def cases_of(command, parameters, count, rng, pool):
             case.data, case.fields = malformed(lines, rng), None
         elif kind < 0.18:
             case.words, case.fields = other_words(case.words, rng), None
-        # Constant bytes FF are refused by each sampler for ever.
+        # Constant bytes FF are rejected by each sampler for ever.
         case.loops = name == "fillff" and command != "id"
         if case.loops and case.fields:
             looping += 1

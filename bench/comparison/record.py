@@ -1,7 +1,7 @@
-"""Records what the Rust answers to a fixed list of cases, for the test `rust_answers` of crates/mldsa_runs.
+"""Records what the Rust returns for a fixed list of cases, for the test `rust_answers` of crates/mldsa_runs.
 
 A case is a number from 0 to 19 at a set. Its bytes follow from the number, as `case` says; the test says the same in
-its own words. Of each case a SHA-256 is kept, of the SHA-256 of each answer's output and status.
+its own words. Of each case a SHA-256 is kept, of the SHA-256 of each result's output and status.
 """
 import hashlib
 import sys
@@ -30,7 +30,7 @@ def changed(data, at, value):
 
 
 def case(driver, parameters, number, signature):
-    """Gives the answers of a case, command by command, and the last signature that was made."""
+    """Gives the results of a case, command by command, and the last signature that was made."""
     seed, random = drawn(number, 0), drawn(number, 1)
     context, message = bytes([number]) * (number * 27 // 2), drawn(number, 2)[:number]
     streams = "fill55" if number in (6, 10, 13) else "sha2"
@@ -64,7 +64,7 @@ def case(driver, parameters, number, signature):
 
 
 def write(driver):
-    """Writes the Rust's answers as a file of crates/mldsa_runs."""
+    """Writes the Rust's results as a file of crates/mldsa_runs."""
     text = HEAD
     for parameters in SIZES:
         digests, signature, kinds = "", b"", {}

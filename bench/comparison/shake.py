@@ -1,4 +1,4 @@
-"""Compares what the Rust crate answers over the crate sha3 with what our library over SHAKE answers."""
+"""Compares what the Rust crate returns over the crate sha3 with what our library over SHAKE returns."""
 import random
 import shutil
 
@@ -21,7 +21,7 @@ def driver(folder, room):
 
 
 def table(folder, room, library, sets, count, seed):
-    """Prints for each set in how many cases both answer the same. Gives how many differ."""
+    """Prints for each set in how many cases both return the same. Gives how many differ."""
     need(missing(library))
     program, loaded = driver(folder, room), calls.loaded(library, room)
 

@@ -1,8 +1,13 @@
-// The times of calls of js/out: prints SET CALL wasm MICROSECONDS, the median of 301 calls.
+// The times of calls of js/out, over its module or over FILE: prints SET CALL NAME MICROSECONDS, the median of 301 calls.
+//
+//     node times.js NAME [FILE]
+import { readFileSync } from "node:fs";
+
 import { load } from "../../js/out/mldsa.js";
 
 const ROUNDS = 301;
-const sets = await load();
+const [processor, file] = process.argv.slice(2);
+const sets = await (file ? load(readFileSync(file)) : load());
 for (const number of [44, 65, 87]) {
     const set = sets[`mlDsa${number}`];
     const taken = { keygen: [], sign: [], verify: [] };
@@ -21,6 +26,6 @@ for (const number of [44, 65, 87]) {
         }
     }
     for (const name in taken) {
-        console.log(number, name, "wasm", Math.round(taken[name].sort((a, b) => a - b)[ROUNDS >> 1]));
+        console.log(number, name, processor, Math.round(taken[name].sort((a, b) => a - b)[ROUNDS >> 1]));
     }
 }

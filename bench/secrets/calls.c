@@ -15,7 +15,7 @@ enum { ROUNDS = 4, MESSAGE = 300, RHO = 32, TR = 64, TR_LEN = 64 };
 static uint8_t seed[32], random_bytes[32], public_key[LONGEST_KEY], private_key[LONGEST_KEY], signature[LONGEST_SIGNATURE];
 static uint8_t message[MESSAGE], digest[32], mu[64], prepared[LONGEST_PREPARED_KEY];
 
-/* Answers are public. */
+/* Results are public. */
 static void done(const char *call, uint32_t status)
 {
     PUBLIC(&status, sizeof status);

@@ -1,4 +1,4 @@
-/* Keys in DER: the three forms as RFC 9881 has them, what is refused and why, and that nothing is written then. */
+/* Keys in DER: the three forms as RFC 9881 has them, what is rejected and why, and that nothing is written then. */
 #include "sets.h"
 
 static uint8_t public_key[LONGEST_KEY], private_key[LONGEST_KEY], seed[32], other_seed[32];
@@ -56,7 +56,7 @@ static const uint8_t *private_file(const struct set *s, int which, int form, uin
     return end - *len;
 }
 
-/* A call that is refused, and what it must leave. */
+/* A call that returns an error, and what it must leave. */
 #define REFUSED(call, status)                                                                                  \
     do {                                                                                                       \
         WANT(call, status);                                                                                    \

@@ -73,7 +73,7 @@ static void signatures(const struct set *s)
     WANT(s->is_pair(private_key, sk), MLDSA_KEY_RANGE);
 }
 
-/* What is refused, and left as it was. */
+/* What is rejected, and left as it was. */
 static void refusals(const struct set *s)
 {
     size_t pk = s->public_key_len, sk = s->private_key_len;

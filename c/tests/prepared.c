@@ -1,4 +1,4 @@
-/* Prepared keys: each call returns what the plain one does; what is refused; and keys of any bytes.
+/* Prepared keys: each call returns what the plain one does; what is rejected; and keys of any bytes.
  *
  *   prepared [COUNT]    so many keys of random bytes at each set, 1000 without it
  *
@@ -133,7 +133,7 @@ static void answers(const struct set *s, int entries)
     mu[0] ^= 1;
     WANT(s->verify_mu_prepared(k.prepared_public, s->prepared_public_key_len, mu, 64, k.signature, sig), MLDSA_NO);
     mu[0] ^= 1;
-    /* What an input is refused for. */
+    /* What an input is rejected for. */
     memset(k.other, 0xA5, sig);
     WANT(s->sign_prepared(k.prepared_private, s->prepared_private_key_len, message, MESSAGE, context, 256, random_bytes, 32, k.other, sig), MLDSA_CONTEXT_TOO_LONG);
     WANT(s->hash_sign_prepared(k.prepared_private, s->prepared_private_key_len, message, 31, context, CONTEXT, SHA256_OID, 11, random_bytes, 32, k.other, sig), MLDSA_DIGEST_LENGTH);
@@ -172,7 +172,7 @@ static void lengths(const struct set *s, int entries)
     release(k);
 }
 
-/* A word of q or more is refused, wherever it stands, and q - 1 isn't. */
+/* A word of q or more is rejected, wherever it stands, and q - 1 isn't. */
 static void ranges(const struct set *s, int entries)
 {
     struct keys k = keys_of(s, entries);

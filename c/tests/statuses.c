@@ -63,7 +63,7 @@ static void keys(const struct set *s, int which)
     WANT(memcmp(other, was, sizeof was), 0);
 }
 
-/* Signing that is refused, and what it must leave. */
+/* Signing that returns an error, and what it must leave. */
 #define REFUSED(call, status)                                                                                  \
     do {                                                                                                       \
         WANT(call, status);                                                                                    \

@@ -189,6 +189,16 @@ test("other arguments than a call has are refused as such", async () => {
     }
 });
 
+test("a public key of another length is refused with the one that it has to have", () => {
+    for (const [number, length] of [[44, 1312], [65, 1952], [87, 2592]]) {
+        for (const other of [0, length - 1, length + 1]) {
+            const message = `an array has the wrong length: publicKey has ${other} bytes, and not ${length}`;
+            const isRight = (error) => error instanceof MlDsaError && error.status === 2 && error.message === message;
+            assert.throws(() => writePublicKey(sets[`mlDsa${number}`], new Uint8Array(other)), isRight);
+        }
+    }
+});
+
 test("a private key of another length is refused with those that it may have", () => {
     for (const [number, length] of [[44, 2560], [65, 4032], [87, 4896]]) {
         for (const other of [0, 31, 33, length - 1, length + 1]) {

@@ -283,12 +283,12 @@ test("identifiers of hash functions cannot be changed", () => {
 });
 
 test("an array of 2 GiB and nearly so is not rounded", async () => {
-    // A digest is copied before its length is refused.
+    // A digest is copied before its length is rejected.
     const { mlDsa44 } = await load(code);
     const { publicKey, privateKey } = mlDsa44.keygen(SEED);
     const signature = mlDsa44.signMu(privateKey, new Uint8Array(64));
     assert.equal(mlDsa44.hashVerify(publicKey, new Uint8Array(2 ** 31 - 15), oids["SHA-256"], signature), false);
-    // What does not fit is refused, and the next call works.
+    // What does not fit is rejected, and the next call works.
     assert.throws(() => mlDsa44.hashVerify(publicKey, new Uint8Array(2 ** 32 - 1), oids["SHA-256"], signature), /RangeError.*do not fit into the module's memory: 4\d{9} bytes/);
     assert.equal(mlDsa44.verifyMu(publicKey, new Uint8Array(64), signature), true);
 });

@@ -23,6 +23,14 @@ function examples(name) {
     });
 }
 
+test("each call of keys.d.ts names the errors that it throws", () => {
+    const declared = [...text("js/keys.d.ts").matchAll(/\/\*\*((?:(?!\*\/).)*)\*\/\nexport function (\w+)/gs)];
+    assert.equal(declared.length, Object.keys(keys).length - 1);
+    for (const [, comment, call] of declared) {
+        assert.match(comment, /@throws `\w+Error`(?:.|\n)*`TypeError`/, call);
+    }
+});
+
 test("examples sign digests that are as strong as their set", () => {
     const strong = { 44: /256|384|512/, 65: /384|512/, 87: /512/ };
     const pages = ["js/mldsa.d.ts", "js/README.md"].map(text).join("\n");

@@ -1,4 +1,4 @@
-"""ML-DSA (FIPS 204) at the parameter sets 44, 65 and 87, by a library whose code is proved.
+"""ML-DSA (FIPS 204) at the parameter sets 44, 65 and 87, by a library compiled from proved code; this Python is tested.
 
     >>> key = MLDSA65PrivateKey.generate()
     >>> public = key.public_key()

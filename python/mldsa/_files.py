@@ -1,6 +1,6 @@
 """The PEM of RFC 7468 around keys in DER, which the library reads and writes.
 
-What is read, what is refused and the sentence are those of the program `mlsign`: text may stand around it, and white
+What is read, what is rejected and the sentence are those of the program `mlsign`: text may stand around it, and white
 space within.
 """
 from __future__ import annotations

@@ -175,7 +175,7 @@ class Refused(unittest.TestCase):
             self.refuses(load_pem_private_key, text[:end], "it is cut short")
 
     def test_each_byte_of_the_frame(self):
-        """Each byte of what frames a key, at each other value, is refused; but a seed may be one of another set."""
+        """Each byte of a key's frame, at each other value, is rejected; but a seed may be of another parameter set."""
         for number in NUMBERS:
             key = KEYS[number]
             within = (SEED, key.expanded_bytes(), key.public_key().public_bytes_raw())
@@ -211,7 +211,7 @@ class Lax(unittest.TestCase):
 
 
 class BesideMlsign(unittest.TestCase):
-    """The program `mlsign` reads what is read here, and refuses with the same sentence what is refused."""
+    """The program `mlsign` reads what is read here, and rejects with the same sentence what is rejected."""
 
     def test_changed_files(self):
         if not os.access(MLSIGN, os.X_OK):

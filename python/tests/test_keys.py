@@ -1,4 +1,4 @@
-"""Keys, signatures, and what is refused."""
+"""Keys, signatures, and what is rejected."""
 import array
 import base64
 import concurrent.futures
@@ -108,7 +108,7 @@ class Signatures(unittest.TestCase):
                 self.assertRaises(InvalidSignature, call, bytes(LENGTHS[number][2]), *given)
 
     def test_answers_are_never_a_yes(self):
-        """An answer that the library does not give is no acceptance and no signature."""
+        """A status that the library does not give is no acceptance and no signature."""
         for status, text in ((13, "ML-DSA.Sign: too many attempts"), (15, "sampling limit reached"),
                              (2, "an array has the wrong length")):
             with mock.patch.dict(KEY._set.calls, sign=lambda *_, status=status: status):

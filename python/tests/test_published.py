@@ -36,7 +36,7 @@ VERIFIES: Dict[str, Callable[..., Any]] = {
 
 
 def answer(number, name, key, *arguments):
-    """The answer of the package to a call, with the plain and with the prepared key."""
+    """The result of a call of the package, with the plain and with the prepared key."""
     if name == "keygen":
         private = PRIVATE[number].from_seed_bytes(key)
         return private.public_key().public_bytes_raw(), private.expanded_bytes()
@@ -68,8 +68,8 @@ def in_file(number, part, way, form, given):
 
 
 def answers(asked):
-    """The answers to the calls of the published cases; a key or an argument that the package does not take is
-    refused."""
+    """The results of the calls of the published cases; a key or an argument that the package does not take is
+    rejected."""
     found = []
     for number, call in asked:
         name, *arguments = published.by_mu(*call)

@@ -1,5 +1,5 @@
 // Makes the calls that standard input asks for, a line each: the number of a set, the name of a call, and its arrays in hex, with a tab between.
-// Prints a line for each: what was made in hex, with a tab between; yes or no; or the text of a refusal. The argument is the module of the library;
+// Prints a line for each: what was made in hex, with a tab between; yes or no; or the text of an error. The argument is the module of the library;
 // beside it is keys.js.
 import { createInterface } from "node:readline";
 import { pathToFileURL } from "node:url";

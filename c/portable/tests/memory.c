@@ -1,5 +1,5 @@
-/* The memory of portable C, which this program hands in: each call wipes it, also where it is refused or cannot be
- * made. `memory measure` prints how much of the module's stack each call uses: SET NAME BYTES. Compiled with a
+/* The memory of portable C, which this program hands in: each call wipes it, also where it returns an error or cannot
+ * be made. `memory measure` prints how much of the module's stack each call uses: SET NAME BYTES. Compiled with a
  * MLDSA_MODULE_STACK that is too small for some calls, these return MLDSA_NO_ANSWER, and the others as ever. */
 #define MLDSA_MEMORY_FROM_CALLER
 #include <stddef.h>

@@ -101,6 +101,6 @@ attempt-is p H a sk mu rho'' kappa k l y w w1 c_tilde rows columns masked produc
     by_parts p H a sk mu rho'' kappa y (vector_coefficients w) w1 c_tilde (masked ∙ ap (λ n. mask p.gamma1 H rho'' n kappa) columns) (product-coefficients p.k p.l a y w product')
     (high_vector-is p (vector_coefficients w) w1 k rows high) committed
 
--- an attempt without a challenge is a refusal
+-- an attempt without a challenge is an error
 pub checked_attempt-limit : (p : ParameterSet) (sk : PrivateParts) (y : List R) (w : ℕ → ℕ → ℕ) (c_tilde : List ℕ) (t : Option R) → t ≡ None → checked_attempt p sk y w c_tilde t ≡ Err SamplingLimit
 checked_attempt-limit p sk y w c_tilde t e = rw e refl

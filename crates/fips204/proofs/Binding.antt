@@ -127,7 +127,7 @@ signature_binds_hash p H G pk x y signature row differ accepted other_accepted =
 
 -- ---- one signature under two keys
 
--- 64 bytes of a front
+-- 64 bytes of an output
 length-64 : (H : List ℕ → List ℕ) → ((x : List ℕ) → 4096 ≤ length (H x)) → (input : List ℕ) → length (take 64 (H input)) ≡ 64
 length-64 H long input = let enough = long input in length-take-le 64 (H input) (omega (arith, enough))
 

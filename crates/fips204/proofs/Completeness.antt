@@ -1,4 +1,4 @@
--- What signing answers is the signature of a kept attempt, and it is accepted.
+-- What signing returns is the signature of a kept attempt, and it is accepted.
 use Rattle.std.proofs.Common.{◌≡◌, ◌⊎◌, inl, inr, ◌+◌, ◌-◌, ◌*◌, ℕ, zero, suc, List, [], ◌∷◌, IsTrue, ◌&&◌, nat_lt, nat_le, length, map, Some, None, Result, Ok, refl, ap, sym, ◌∙◌, ◌<◌, ◌≤◌, ◌++◌, pos, arith, option_map, unwrap_or, Err}
 use Rattle.fips204.proofs.Names.{range_with_len, cases_Bool, ltb-true, leb-true, Fault, SamplingLimit, R, T, vector_norm, challenge, mask, sampled_matrix, PrivateParts, ArePrivateParts, signature_bytes, w1_bytes, all_ones, vector_coefficients, matrix_product, IsVector, ParameterSet, c_tilde_length, IsSet, IsWhole, high_part, low_part, response, low_vector, ct0, hint_vector, passes_checks, commitment_hash, attempt, w_minus_cs2, first_answer, sign_with, sign, length-take-le, Accepts, Verifies, scaled, y_plus_cs1, high_vector, mask_seed, checked_attempt}
 use Rattle.std.specs.declared.option.Option.{Option}
@@ -6,7 +6,7 @@ use Rattle.fips204.proofs.ParameterSets.{and_out, AreSetNumbers, set_numbers}
 use Rattle.fips204.proofs.KeptHints.{IsKept, hinted_is_high}
 use Rattle.fips204.proofs.RejectionChecks.{centred-range, hint-vector}
 
--- What signing answers is the signature of an attempt that was kept.
+-- What signing returns is the signature of an attempt that was kept.
 
 -- ---- the attempt that was signed
 
@@ -106,7 +106,7 @@ unfolding sign
 signed_by_attempt p H G sk mu rnd signature a there e =
     sign_with_signed p H a sk mu rnd signature (sym (ap (λ o. unwrap_or (option_map (λ m. sign_with p H m sk mu rnd) o) (Err SamplingLimit)) there) ∙ e)
 
--- What signing gives with a whole private key is accepted.
+-- What signing gives with a consistent private key is accepted.
 
 -- ---- the parts of the signature
 
@@ -154,12 +154,12 @@ accepts p H a sk mu signature numbers parts low whole was =
       same = refl;
     }
 
--- what signing gives with the matrix and a private key that is whole with it
+-- what signing gives with the matrix and a private key that is consistent with it
 pub accepts_signed_with : (p : ParameterSet) (H : List ℕ → List ℕ) (a : List (List T)) (sk : PrivateParts) (mu rnd signature : List ℕ) → IsSet p → ArePrivateParts p.eta p.k p.l sk
     → sk.t0 ≡ low_part p a sk.s1 sk.s2 → ((x : List ℕ) → 4096 ≤ length (H x)) → sign_with p H a sk mu rnd ≡ Ok signature → Accepts p H a (high_part p a sk.s1 sk.s2) mu signature
 accepts_signed_with p H a sk mu rnd signature row parts low law made = accepts p H a sk mu signature (set_numbers p row) parts low law (sign_with_signed p H a sk mu rnd signature made)
 
--- what signing gives with a whole private key, the public key accepts whose high part is that of A s1 + s2
+-- what signing gives with a consistent private key, the public key accepts whose high part is that of A s1 + s2
 pub completeness : (p : ParameterSet) (H G : List ℕ → List ℕ) (sk : PrivateParts) (mu rnd signature : List ℕ) → IsSet p → ArePrivateParts p.eta p.k p.l sk → (whole : IsWhole p G sk)
     → ((x : List ℕ) → 4096 ≤ length (H x)) → sign p H G sk mu rnd ≡ Ok signature
     → Verifies p H G record { rho = sk.rho; tr = sk.tr; t1 = high_part p whole.matrix sk.s1 sk.s2 } mu signature

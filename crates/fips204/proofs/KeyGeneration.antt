@@ -1,4 +1,4 @@
--- The vector t = A s1 + s2 of a pair of keys, and what key generation and derivation answer.
+-- The vector t = A s1 + s2 of a pair of keys, and what key generation and derivation return.
 use Rattle.std.proofs.Common.{◌≡◌, ◌<◌, ◌≤◌, ◌+◌, ◌-◌, ◌%◌, ℕ, ℤ, List, pos, ap, ◌∙◌, arith, ◌⊎◌, inl, inr, refl, sym, Some, None, Ok, Err, take, drop, Bool, IsTrue, ◌≢◌, ◌↔◌, ok_or, option_map, option_and_then}
 use Rattle.fips204.proofs.Names.{none-some, ints, R, T, residue, power2round, IsVector, vector_coefficients, vector_of, matrix_product, power2round_high, power2round_low, vector_of-ext, vector_of-entry, vector_of-range, PublicParts, PrivateParts, IsWhole, key_vector, high_part, low_part, key_pair, seed_front, key_hash, ParameterSet, drop-take, take-take, SamplingLimit, sampled_matrix, small_vectors, small_vector, generated, derived}
 use Rattle.fips204.proofs.RefusedCalls.{same_some}
@@ -44,7 +44,7 @@ low_part-range p a s1 s2 =
     vector_of-range p.k 4095 4096 (λ r n. (power2round (key_vector p.l a s1 s2 r n)).1) (λ r n h q.
     power2round_low (key_vector p.l a s1 s2 r n) (key_vector-below p a s1 s2 r n))
 
--- What key generation and derivation answer.
+-- What key generation and derivation return.
 
 pub derived-none : (p : ParameterSet) (G : List ℕ → List ℕ) (sk : PrivateParts) → sampled_matrix G sk.rho p.k p.l ≡ None → derived p G sk ≡ Err SamplingLimit
 unfolding derived
@@ -55,13 +55,13 @@ pub derived-some : (p : ParameterSet) (G : List ℕ → List ℕ) (sk : PrivateP
 unfolding derived
 derived-some p G sk a t1 there high = rw (there, high) refl
 
--- t0 is that of the matrix of rho exactly where the key is whole
+-- t0 is that of the matrix of rho exactly where the key is consistent
 pub low_of_whole : (p : ParameterSet) (G : List ℕ → List ℕ) (sk : PrivateParts) (a : List (List T)) (low : List R) → sampled_matrix G sk.rho p.k p.l ≡ Some a → low ≡ low_part p a sk.s1 sk.s2
     → IsWhole p G sk → sk.t0 ≡ low
 low_of_whole p G sk a low there is whole =
     whole.low ∙ ap (λ m. low_part p m sk.s1 sk.s2) (same_some whole.matrix a (sym whole.sampled ∙ there)) ∙ sym is
 
--- whether t0 is the low part tells whether the key is whole
+-- whether t0 is the low part tells whether the key is consistent
 pub tells_whole : (p : ParameterSet) (G : List ℕ → List ℕ) (sk : PrivateParts) (a : List (List T)) (low : List R) (answer : Bool) → sampled_matrix G sk.rho p.k p.l ≡ Some a
     → low ≡ low_part p a sk.s1 sk.s2 → IsTrue answer ↔ (sk.t0 ≡ low) → (sampled_matrix G sk.rho p.k p.l ≢ None) × (IsTrue answer ↔ IsWhole p G sk)
 tells_whole p G sk a low answer there is both = (

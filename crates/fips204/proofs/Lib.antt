@@ -15,9 +15,11 @@ mod Attempts
 mod Verification
 mod PreHash
 mod RefusedCalls
+mod Writing
 mod PreparedBytes
 mod RefusalLaws
 mod Framing
+mod Hooks
 mod Binding
 mod OtherHints
 mod LongerFronts

@@ -1,4 +1,4 @@
--- Answers stay where the fronts are prefixes of longer ones.
+-- Results stay where the outputs are prefixes of longer ones.
 use Rattle.std.proofs.Common.{◌≡◌, ◌≢◌, ℕ, ◌+◌, ◌-◌, ◌*◌, ◌≤◌, ◌⊎◌, inl, inr, List, [], ◌∷◌, ◌++◌, length, take, drop, map, refl, ap, sym, subst, ◌∙◌, arith, Some, None, ok_or, append_assoc, option_map, unwrap_or, Ok, Err}
 use Rattle.fips204.proofs.Names.{range_with_len, take_at, none-some, Fault, SamplingLimit, R, T, vector_coefficients, matrix_product, PublicParts, PrivateParts, w1_bytes, public_key_bytes, vector_bytes, IsSignature, hint_bytes, sampled_matrix, challenge, mask, ParameterSet, c_tilde_length, IsSet, high_part, key_pair, key_hash, high_vector, mask_seed, checked_attempt, Input, plain, hashed, framed, represented, frame, representative, commitment_hash, attempt, first_answer, sign_with, sign, Verifies, generated, derived, refused_or, input_fault, sign_input, VerifiesInput}
 use Rattle.std.specs.declared.option.Option.{Option}
@@ -10,11 +10,11 @@ use Rattle.fips204.proofs.KeyGeneration.{key_pair_if_all, key_pair_of_seed, gene
 use Rattle.fips204.specs.LongerFronts.{CounterFrontsArePrefixes, SamplesStay, Stays, AnswersStay, IsVerdictDecided, sampled, malformed, YesAndNoStay, AcceptanceStays, LongerFrontsKeep}
 use Rattle.fips204.proofs.ParameterSets.{set_numbers}
 
--- a front has at least 4096 bytes
+-- an output has at least 4096 bytes
 abbrev pub AreLong : (List ℕ → List ℕ) → Type 0
 AreLong H = (input : List ℕ) → 4096 ≤ length (H input)
 
--- ---- answers that may be none
+-- ---- results that may be none
 
 ok_stays : {A : Type 0} (o longer : Option A) → ((x : A) → o ≡ Some x → longer ≡ Some x) → Stays (ok_or o SamplingLimit) (ok_or longer SamplingLimit)
 ok_stays None longer same not = absurd (not refl)
@@ -36,7 +36,7 @@ signature-first gamma1 omega' k l n bytes c_tilde z h s =
     let same : (c_tilde ++ response) ++ hint ≡ bytes = s.encoding in
     ap (take n) (sym same ∙ append_assoc c_tilde response hint) ∙ take_at c_tilde (response ++ hint) n s.c_tilde_size
 
--- from here on: the streams H and G, and H' and G' with longer fronts
+-- from here on: the XOFs H and G, and H' and G' with longer outputs
 module _ (H G H' G' : List ℕ → List ℕ) (first : ArePrefixes H H') (second : ArePrefixes G G') (enough : AreLong H) where
   hash-longer : (n : ℕ) (input : List ℕ) → n ≤ 4096 → take n (H' input) ≡ take n (H input)
   hash-longer n input l = prefix-take (H input) (H' input) n (first input) (omega (arith, l, enough input))

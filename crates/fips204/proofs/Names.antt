@@ -10,7 +10,7 @@ pub use Rattle.fips204.specs.Keys.{DecodesPrivate, IsWhole, key_vector}
 pub use Rattle.fips204.specs.ParameterSets.{IsSet, ParameterSet, c_tilde_length, set_44, set_65, set_87}
 pub use Rattle.fips204.specs.Prepared.{IsEachJudged, IsEachSigned, IsWholePrepared, PreparedAnswersAsPlain, PreparedPrivate, PreparedPublic, VerifiesPrepared, prepared_private, prepared_public, public_of_prepared, sign_prepared}
 unfoldable pub use Rattle.fips204.specs.Refusals.{derived, generated}
-pub use Rattle.fips204.specs.Refusals.{DrawsUnless, OnlySamplingLimit, VerifiesInput, input_fault, refused_or, sign_input}
+pub use Rattle.fips204.specs.Refusals.{DrawsUnless, OnlySamplingLimit, VerifiesInput, Writes, input_fault, refused_or, sign_input}
 pub use Rattle.fips204.specs.SchemeLaws.{AreFramedAlike, ChallengeProductIsSmall, Collide, Fixes, FramingIsOneToOne, NamesKeyCollision, OtherHintCollides, PackingIsUndone, RefusesOnly, SignatureBindsHash, SignatureBindsInput, SignatureBindsKey, SignatureFixesOne, framing, has_context}
 pub use Rattle.fips204.specs.Sets.{HasKeySizes, HasSizes, set_of}
 unfoldable pub use Rattle.fips204.specs.Signing.{attempt, commitment_hash, ct0, first_answer, hint_vector, low_vector, passes_checks, response, sign, sign_with}

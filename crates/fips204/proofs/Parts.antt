@@ -10,7 +10,7 @@ use Rattle.fips204_base.specs.declared.fault.Fault.TheVariants.{SamplingLimit, T
 use Rattle.fips204_base.specs.declared.types.R.{R}
 use Rattle.fips204.specs.ParameterSets.{ParameterSet}
 
--- the refusals of signing beside those of its input: a sampler reached its limit, or every attempt was rejected
+-- the errors of signing beside those of its input: a sampler reached its limit, or every attempt was rejected
 abbrev pub IsSigningLimit : Fault → Type 0
 IsSigningLimit fault = (fault ≡ SamplingLimit) ⊎ (fault ≡ TooManyAttempts)
 

@@ -1,4 +1,4 @@
--- A table of OIDs with the lengths of their hashes' digests, gone through from the front.
+-- A table of OIDs with the lengths of their hashes' digests, gone through from the start.
 use Rattle.std.proofs.Common.{◌≡◌, ◌<◌, ◌≤◌, ◌+◌, ℕ, List, [], ◌∷◌, Bool, true, false, cond, length, get_or, drop, map, Option, Some, None, refl, ap, ◌∙◌, bytes_eq, find, option_map}
 use Rattle.fips204.proofs.Names.{drop_more, drop_all, hash_oid, hashes, digest_length}
 

@@ -1,4 +1,4 @@
--- Keys with their matrix: what is signed with one is accepted, and each answers as its plain key.
+-- Keys with their matrix: what is signed with one is accepted, and each returns what its plain key does.
 use Rattle.std.proofs.Common.{◌≡◌, ◌≤◌, ℕ, List, [], Bool, refl, sym, ap, subst, ◌∙◌, length, get_or, Result, Ok, Some, None, ◌↔◌, ok_or, option_map, unwrap_or, Err}
 use Rattle.fips204.proofs.Names.{Fault, SamplingLimit, T, sampled_matrix, Accepts, Verifies, Input, plain, representative, PublicParts, PrivateParts, ArePrivateParts, IsWhole, high_part, low_part, ParameterSet, IsSet, PreparedPrivate, PreparedPublic, prepared_private, prepared_public, public_of_prepared, sign_prepared, IsWholePrepared, VerifiesPrepared, IsEachSigned, IsEachJudged, PreparedAnswersAsPlain, refused_or, input_fault, sign_input, VerifiesInput, derived, sign, sign_with}
 use Rattle.std.specs.declared.option.Option.{Option}
@@ -18,7 +18,7 @@ signed_accepted p H K L sk rnd input answer known law rows columns parts same =
     (λ mu m. accepts_signed_with p H sk.matrix sk.parts mu rnd signature known (rw (rows, columns) at parts) whole law m) (sym same ∙ e) in
     subst (λ (k : PreparedPublic). VerifiesPrepared p H k signature input) (same_ok (public_of_prepared p sk) pk derives) made
 
--- ---- a prepared key answers as its plain key
+-- ---- a prepared key returns what its plain key does
 
 -- what was prepared is the key with the matrix of its seed
 pub private_parts : (matrix : Option (List (List T))) (sk : PrivateParts) (prepared : PreparedPrivate) → ok_or (option_map (λ a. record { parts = sk; matrix = a }) matrix) SamplingLimit ≡ Ok prepared
@@ -68,7 +68,7 @@ verdict_as_plain p H G pk prepared signature input e =
     let both = accepts_as_plain p H G pk prepared (representative H pk.tr input) signature is.0 is.1 in
     (λ x. (x.0, both.0 (subst accepts (sym mu) x.1)), λ v. (v.0, subst accepts mu (both.1 v.1)))
 
--- of lists: an answer that is as that of the plain key for each entry
+-- of lists: for each entry the result of the plain key
 each_signed : (signs alike : List ℕ → List ℕ → Result (List ℕ) Fault) (seeds messages : List (List ℕ)) (answers : List (Result (List ℕ) Fault)) → ((rnd m : List ℕ) → signs rnd m ≡ alike rnd m)
     → IsEachSigned signs seeds messages answers → IsEachSigned alike seeds messages answers
 each_signed signs alike seeds messages answers same each = (each.0, each.1, λ i h. each.2 i h ∙ same (get_or seeds i []) (get_or messages i []))

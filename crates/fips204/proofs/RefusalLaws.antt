@@ -1,4 +1,4 @@
--- Which refusals whole calls have.
+-- Which errors whole calls have.
 use Rattle.std.proofs.Common.{◌≡◌, ◌⊎◌, inl, inr, ℕ, ◌*◌, List, [], ◌∷◌, map, Option, Some, None, Result, Ok, Err, refl, rules, IfErr, ok_or, option_map, unwrap_or}
 use Rattle.fips204.proofs.Names.{range_with_len, Fault, SamplingLimit, T, sampled_matrix, ParameterSet, PrivateParts, attempt, first_answer, sign_with, sign, Input, representative, RefusesOnly, IsSigningLimit, mask_seed, derived, refused_or, input_fault, sign_input, OnlySamplingLimit}
 use Rattle.fips204.proofs.KeyGeneration.{key_pair_of_seed, generated-by_parts}
@@ -36,7 +36,7 @@ signing_refuses : (p : ParameterSet) (H G : List ℕ → List ℕ) (sk : Private
 unfolding sign
 signing_refuses p H G sk mu rnd = with_matrix p H (sampled_matrix G sk.rho p.k p.l) sk mu rnd
 
--- a refusal that stands first, or one of the answer
+-- an error that stands first, or one of the result
 first_or_later : (first : Option Fault) (answer : Result (List ℕ) Fault) (may : Fault → Type 0) → IfErr answer may → IfErr (refused_or first answer) (λ fault. (first ≡ Some fault) ⊎ may fault)
 first_or_later None (Ok x) may is = search rules
 first_or_later None (Err fault) may is = inr is

@@ -1,4 +1,4 @@
--- Answers and refusals of whole calls.
+-- Results and errors of whole calls.
 use Rattle.std.proofs.Common.{Result, ◌≡◌, ◌≤◌, ◌↔◌, ℕ, List, length, Bool, true, false, IsTrue, Option, Some, None, Ok, Err, refl, sym, ap, ◌∙◌, subst, nat_lt, if◌then◌else◌}
 use Rattle.fips204.proofs.Names.{ltb-false, Fault, Input, representative, refused_or, input_fault, input_hash}
 
@@ -6,29 +6,29 @@ use Rattle.fips204.proofs.Names.{ltb-false, Fault, Input, representative, refuse
 pub same_some : {A : Type 0} (x y : A) → Some x ≡ Some y → x ≡ y
 same_some x y e = cc
 
--- and where the answers that hold them are
+-- and where the results that hold them are
 pub same_ok : {A : Type 0} (x y : A) → Path (Result A Fault) (Ok x) (Ok y) → x ≡ y
 same_ok x y e = cc
 
--- an answer comes where no refusal stands first
+-- a result comes where no error stands first
 pub not_refused : {A : Type 0} (fault : Option Fault) (answer : Result A Fault) (x : A) → refused_or fault answer ≡ Ok x
     → (fault ≡ None) × (answer ≡ Ok x)
 not_refused None answer x e = (refl, e)
 not_refused (Some fault) answer x e = absurd cc
 
--- what a test of a chain of refusals says where none is given
+-- what a test of a chain of errors says where none is given
 pub passed : (test : Bool) (fault : Fault) (later : Option Fault) → (if test then Some fault else later) ≡ None → (test ≡ false) × (later ≡ None)
 passed true fault later e = absurd (cc)
 passed false fault later e = (refl, e)
 
--- a context that isn't refused is short, and what is asked after it isn't refused either
+-- a context that isn't rejected is short, and what is asked after it isn't rejected either
 pub short_context : (context : List ℕ) (fault : Fault) (later : Option Fault) → (if nat_lt 255 (length context) then Some fault else later) ≡ None
     → (length context ≤ 255) × (later ≡ None)
 short_context context fault later e =
     let both = passed (nat_lt 255 (length context)) fault later e in
     (ltb-false 255 (length context) both.0, both.1)
 
--- mu of an input that isn't refused
+-- mu of an input that isn't rejected
 pub given_input : (H : List ℕ → List ℕ) (tr own mu : List ℕ) (input : Input) → tr ≡ own → Ok mu ≡ input_hash H tr input
     → (input_fault input ≡ None) × (mu ≡ representative H own input)
 given_input H tr own mu input same e =
@@ -44,7 +44,7 @@ verified_input H tr mu input accepts r e verdict =
     let given = given_input H tr tr mu input refl e in
     (λ t. (given.0, subst accepts given.1 (verdict.0 t)), λ v. verdict.1 (subst accepts (sym given.1) v.1))
 
--- an input of which there is no mu is refused
+-- an input of which there is no mu is rejected
 pub refused_input : (H : List ℕ → List ℕ) (tr : List ℕ) (input : Input) (why : Fault) → Err why ≡ input_hash H tr input → input_fault input ≡ None → ⊥
 refused_input H tr input why e none =
     let hash : Result (List ℕ) Fault = Ok (representative H tr input) in

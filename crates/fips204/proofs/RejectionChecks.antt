@@ -68,7 +68,7 @@ hint_bit-is g x t b e =
 
 -- Which attempts are kept, test by test.
 
--- an attempt by the answers of its four tests
+-- an attempt by the results of its four tests
 pub by_tests : (p : ParameterSet) (sk : PrivateParts) (y : List R) (w : ℕ → ℕ → ℕ) (c_tilde : List ℕ) (c : R) {first second third fourth : Bool}
     → first ≡ nat_lt (vector_norm (response p sk y c)) (p.gamma1 - p.beta) → second ≡ nat_lt (vector_norm (low_vector p sk w c)) (p.gamma2 - p.beta)
     → third ≡ nat_lt (vector_norm (ct0 p sk c)) p.gamma2 → fourth ≡ nat_le (length (all_ones (hint_vector p sk w c))) p.omega

@@ -1,10 +1,10 @@
--- The first attempt that isn't rejected decides what signing answers.
+-- The first attempt that isn't rejected decides what signing returns.
 use Rattle.std.proofs.Common.{◌≡◌, ◌<◌, ◌+◌, ◌-◌, ℕ, suc, List, [], ◌∷◌, Ok, Err, map, refl, ap, sym, ◌∙◌, arith, ◌≤◌, ◌*◌, Option, Some, None, Result}
 use Rattle.fips204.proofs.Names.{range_with_len, TooManyAttempts, SamplingLimit, attempt, first_answer, sign, sign_with, mask_seed, mul-le-mul, Fault, T, sampled_matrix, PrivateParts, ParameterSet}
 
--- ---- the answer of attempts
+-- ---- the result of attempts
 
--- the answer of `count` attempts, those of the numbers from n on
+-- the result of `count` attempts, those of the numbers from n on
 unfoldable pub answer_from : (ℕ → Result (Option (List ℕ)) Fault) → ℕ → ℕ → Result (List ℕ) Fault
 answer_from f n count = first_answer (map f (range_with_len n count))
 

@@ -1,4 +1,4 @@
--- Keys by their bytes, generated pairs, and what a whole private key signs.
+-- Keys by their bytes, generated pairs, and what a consistent private key signs.
 use Rattle.std.proofs.Common.{◌≡◌, ◌-◌, ℕ, List, length, take, drop, IsTrue, Bool, true, ◌&&◌, Some, None, Result, Ok, Err, refl, ap, sym, subst, ◌∙◌, arith, length-drop, ◌≤◌, option_map, ok_or, ◌↔◌, MatchResult}
 use Rattle.fips204.proofs.Names.{All, length-take-le, none-some, R, T, PublicParts, PrivateParts, ArePublicParts, ArePrivateParts, IsPublicKeyOf, IsPrivateKeyOf, public_key_bytes, private_key_bytes, sampled_matrix, small_vector, IsVector, small_vector-range, some_of_ok, ParameterSet, IsSet, DecodesPrivate, IsWhole, high_part, low_part, key_pair, sign, Verifies, derived, generated, AcceptsSigned, IsPair, TellsPair, DecodesAlone, BytesTellKeys, Fault, SamplingLimit, same_private_key, IsT1, same_parts, IsHighPart, seed_front, key_hash}
 use Rattle.std.specs.declared.option.Option.{Option}
@@ -42,7 +42,7 @@ bytes_tell_keys p row = record {
 pub derived_of_whole : (p : ParameterSet) (G : List ℕ → List ℕ) (sk : PrivateParts) → (whole : IsWhole p G sk) → derived p G sk ≡ Ok record { rho = sk.rho; tr = sk.tr; t1 = high_part p whole.matrix sk.s1 sk.s2 }
 derived_of_whole p G sk whole = derived-some p G sk whole.matrix (high_part p whole.matrix sk.s1 sk.s2) whole.sampled refl
 
--- ---- what a whole private key signs is accepted
+-- ---- what a consistent private key signs is accepted
 
 -- the public key of a private key has its tr
 pub derived_hash : (p : ParameterSet) (G : List ℕ → List ℕ) (sk : PrivateParts) (pk : PublicParts) → derived p G sk ≡ Ok pk → sk.tr ≡ pk.tr
@@ -63,13 +63,13 @@ accepts_signed p H G pk sk row law parts whole derives =
     λ rnd signature input made.
     signed_input H sk.tr pk.tr input (λ mu. sign p H G sk mu rnd) (λ mu. Verifies p H G pk mu signature) signature (derived_hash p G sk pk derives) (λ mu. accepts mu rnd signature) made
 
--- ---- a whole private key and the hash of its public key's bytes
+-- ---- a consistent private key and the hash of its public key's bytes
 
--- bytes decode to one public key over a stream
+-- bytes decode to one public key over an XOF
 one_decoded : (H : List ℕ → List ℕ) (k : ℕ) (bytes : List ℕ) (pk other : PublicParts) → IsPublicKeyOf H k bytes pk → IsPublicKeyOf H k bytes other → other ≡ pk
 one_decoded H k bytes pk other one two = one_public_key k other pk two.parts one.parts (two.tr ∙ sym one.tr) (two.encoding ∙ sym one.encoding)
 
--- the public key that is derived of a whole private key is what its bytes decode to, if tr is their hash
+-- the public key that is derived of a consistent private key is what its bytes decode to, if tr is their hash
 public_decodes : (p : ParameterSet) (H G : List ℕ → List ℕ) (pk : PublicParts) (sk : PrivateParts) → ArePrivateParts p.eta p.k p.l sk → IsWhole p G sk → derived p G sk ≡ Ok pk
     → sk.tr ≡ key_hash H pk.rho pk.t1 → IsPublicKeyOf H p.k (public_key_bytes pk.rho pk.t1) pk
 public_decodes p H G pk sk parts whole derives hash =

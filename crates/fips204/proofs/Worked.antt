@@ -129,7 +129,7 @@ long_contexts = refl
 no_conditions : (input_fault (framed (replicate 256 0)) ≡ None) × (input_fault (represented []) ≡ None)
 no_conditions = (refl, refl)
 
--- a refusal stands before what is signed, which else is mu
+-- an error stands before what is signed, which else is mu
 no_parts : PrivateParts
 no_parts = record { rho = []; key = []; tr = []; s1 = []; s2 = []; t0 = [] }
 
@@ -151,19 +151,19 @@ digest_before_identifier = refl
 seeds_of_sets : (seed_front set_44 (λ x. x) (9 ∷ []) ≡ 9 ∷ 4 ∷ 4 ∷ []) × (seed_front set_65 (λ x. x) (9 ∷ []) ≡ 9 ∷ 6 ∷ 5 ∷ []) × (seed_front set_87 (λ x. x) (9 ∷ []) ≡ 9 ∷ 8 ∷ 7 ∷ [])
 seeds_of_sets = (refl, refl, refl)
 
--- both keys, where they are the answer
+-- both keys, where they are the result
 keys_of : Result (PublicParts × PrivateParts) Fault → Option (PublicParts × PrivateParts)
 keys_of (Ok keys) = Some keys
 keys_of (Err fault) = None
 
--- so rho of set 65 begins with xi and the bytes 6 and 5, where H gives back its input
+-- so rho of ML-DSA-65 begins with xi and the bytes 6 and 5, where H gives back its input
 seeds_begin : option_map {U = List ℕ} (λ pair. take 4 pair.0.rho) (keys_of (generated set_65 (λ input. input ++ replicate 1024 0) (λ _. replicate 1024 0) (9 ∷ [])))
     ≡ Some (9 ∷ 6 ∷ 5 ∷ 0 ∷ [])
 unfolding small_vectors key_pair sampled_matrix all_present matrix_entry first_256 small_polynomial keys_of generated
 seeds_begin = refl
 
--- a stream whose front over the 34 bytes of the seeds is 0, 1, .. to 127, and over any other input its bytes 0 and 64 in turn: over rho'
--- and a number those are the first byte of rho' and the low byte of the number
+-- an XOF whose output over the 34 bytes of the seeds is 0, 1, .. to 127, and over any other input its bytes 0 and 64 in
+-- turn: over rho' and a number those are the first byte of rho' and the low byte of the number
 numbered : List ℕ → List ℕ
 numbered input = if nat_eq (length input) 34 then range_with_len 0 128 else flat_map (λ _. get_or input 0 0 ∷ get_or input 64 0 ∷ []) (range_with_len 0 512)
 
@@ -243,7 +243,8 @@ high_parts_of_s2 : (derived (record set_44 { k = 1; l = 0 }) (λ _. []) (record 
 unfolding no_parts constant derived sampled_matrix all_present high_part vector_of polynomial_of matrix_product sum_below
 high_parts_of_s2 = (refl, refl)
 
--- the matrix has as many columns as the set: without any no entry is sampled, so a G without output is no limit
+-- the matrix has as many columns as the parameter set: without any no entry is sampled, so a G without output is no
+-- limit
 one_small_polynomial : option_map {U = ℕ} (λ pair. length pair.1.s2) (keys_of (generated (record set_44 { k = 1; l = 0 }) (λ _. replicate 1024 0) (λ _. []) [])) ≡ Some 1
 unfolding small_vectors key_pair sampled_matrix all_present matrix_entry first_256 small_polynomial keys_of generated
 one_small_polynomial = refl

@@ -11,7 +11,7 @@ use Rattle.fips204_base.specs.Encodings.{PrivateParts, all_ones, is_one}
 use Rattle.fips204.specs.ParameterSets.{ParameterSet, set_44, set_65}
 use Rattle.fips204.specs.Signing.{response, low_vector, ct0, hint_vector, passes_checks}
 
--- a set of one row and one column, with another gamma1 and omega; beta is 78
+-- a parameter set of one row and one column, with another gamma1 and omega; beta is 78
 toy : ℕ → ℕ → ParameterSet
 toy g o = record set_44 { tau = 1; gamma1 = g; k = 1; l = 1; omega = o }
 

@@ -1,4 +1,5 @@
--- Worked values of sizes and sets, of relations between lists of messages and their answers, and of what the laws on framing and collisions ask.
+-- Worked values of sizes and sets, of relations between lists of messages and their results, and of what the laws on
+-- framing and collisions ask.
 use Rattle.std.proofs.Common.{◌≡◌, ◌≤◌, ℕ, List, [], ◌∷◌, ◌++◌, length, true, false, true≢false, Ok, Err, inl, inr, refl, arith, ap, pos}
 use Rattle.std.specs.Prelude.{replicate, slice_index}
 use Rattle.std.proofs.lemmas.List.{get_or-replicate}
@@ -43,7 +44,7 @@ shifted_vectors = (
 each_signed : IsEachSigned (λ rnd message. Ok (rnd ++ message)) ((1 ∷ []) ∷ []) ((2 ∷ []) ∷ []) (Ok (1 ∷ 2 ∷ []) ∷ [])
 each_signed = (refl, refl, λ i h. let first : i ≡ 0 = omega (arith, h) in rw first refl)
 
--- a seed too many, an answer too many, and another answer
+-- a seed too many, a result too many, and another result
 not_each_signed : (IsEachSigned (λ rnd message. Ok (rnd ++ message)) ([] ∷ []) [] [] → ⊥) × (IsEachSigned (λ rnd message. Ok (rnd ++ message)) [] [] (Ok [] ∷ []) → ⊥)
     × (IsEachSigned (λ rnd message. Ok (rnd ++ message)) ((1 ∷ []) ∷ []) ((2 ∷ []) ∷ []) (Err SamplingLimit ∷ []) → ⊥)
 not_each_signed = (λ s. omega (arith, s.0), λ s. omega (arith, s.1), λ s. let wrong : Err SamplingLimit ≡ Ok (1 ∷ 2 ∷ []) = s.2 0 (omega arith) in cc)
@@ -52,7 +53,7 @@ not_each_signed = (λ s. omega (arith, s.0), λ s. omega (arith, s.1), λ s. let
 each_judged : IsEachJudged (λ message signature. length message ≤ length signature) ([] ∷ []) ((1 ∷ []) ∷ []) (true ∷ [])
 each_judged = (refl, refl, λ i h. let first : i ≡ 0 = omega (arith, h) in rw first (λ _. omega arith, λ _. refl))
 
--- a signature too many, an answer too many, and a wrong one
+-- a signature too many, a result too many, and a wrong one
 not_each_judged : (IsEachJudged (λ message signature. length message ≤ length signature) [] ([] ∷ []) [] → ⊥) × (IsEachJudged (λ message signature. length message ≤ length signature) [] [] (true ∷ []) → ⊥)
     × (IsEachJudged (λ message signature. length message ≤ length signature) ((1 ∷ []) ∷ []) ([] ∷ []) (true ∷ []) → ⊥)
 not_each_judged = (λ j. omega (arith, j.0), λ j. omega (arith, j.1), λ j. let wrong : 1 ≤ 0 = (j.2 0 (omega arith)).0 refl in omega (arith, wrong))

@@ -12,7 +12,7 @@ use Rattle.fips204.specs.Refusals.{generated, derived, sign_input, VerifiesInput
 abbrev pub AcceptsSigned : ParameterSet → XOF → XOF → PublicParts → PrivateParts → Type 0
 AcceptsSigned p H G pk sk = (rnd signature : Bytes) (input : Input) → sign_input p H G sk rnd input ≡ Ok signature → VerifiesInput p H G pk signature input
 
--- what a signing call answers is accepted: where the private key is whole, by the public key that is derived of it
+-- what a signing call returns is accepted: where the private key is consistent, by the public key that is derived of it
 abbrev pub AcceptedIfWhole : {P S : Type 0} → Type 0 → Result P Fault → (P → S → Type 0) → Result S Fault → Type 0
 AcceptedIfWhole {P} {S} whole derives accepts answer = (pk : P) (signature : S) → whole → derives ≡ Ok pk → answer ≡ Ok signature → accepts pk signature
 
@@ -20,11 +20,11 @@ AcceptedIfWhole {P} {S} whole derives accepts answer = (pk : P) (signature : S) 
 abbrev pub AcceptedIfWholePlain : ParameterSet → XOF → XOF → PrivateParts → Input → Result Bytes Fault → Type 0
 AcceptedIfWholePlain p H G sk input answer = AcceptedIfWhole (IsWhole p G sk) (derived p G sk) (λ pk signature. VerifiesInput p H G pk signature input) answer
 
--- decoding a key's bytes answers that key and nothing else
+-- decoding a key's bytes returns that key and nothing else
 abbrev pub DecodesAlone : {K B : Type 0} → (B → Result K Fault → Type 0) → B → K → Type 0
 DecodesAlone {K} {B} decodes bytes key = (answer : Result K Fault) → decodes bytes answer → answer ≡ Ok key
 
--- two keys are a pair: the private one is in range and whole, the public one is derived of it, and each is all that its bytes decode to
+-- two keys are a pair: the private one is in range and consistent, the public one is derived of it, and each is all that its bytes decode to
 pub record IsPair (p : ParameterSet) (H G : XOF) (pk : PublicParts) (sk : PrivateParts) : Type 0 where
   pub parts : ArePrivateParts p.eta p.k p.l sk
   pub whole : IsWhole p G sk
@@ -32,12 +32,12 @@ pub record IsPair (p : ParameterSet) (H G : XOF) (pk : PublicParts) (sk : Privat
   pub public_decoded : (other : PublicParts) → IsPublicKeyOf H p.k (public_key_bytes pk.rho pk.t1) other ↔ (other ≡ pk)
   pub private_decoded : (other : PrivateParts) → IsPrivateKeyOf p.eta p.k p.l (private_key_bytes p.eta sk) other ↔ (other ≡ sk)
 
--- an answer to whether a private key and the public key that is derived of it are a pair; a refusal where no key is derived
+-- whether a private key and the public key that is derived of it are a pair; an error where no key is derived
 abbrev pub TellsPair : ParameterSet → XOF → XOF → PrivateParts → Result Bool Fault → Type 0
 TellsPair p H G sk answer = MatchResult answer (λ yes. (pk : PublicParts) × (derived p G sk ≡ Ok pk) × (IsTrue yes ↔ IsPair p H G pk sk))
     (λ fault. derived p G sk ≡ Err fault)
 
--- at each of the three sets, over any two streams: what a whole private key signs is accepted by the public key derived of it, and they are
+-- at each of the three sets, over any two XOFs: what a consistent private key signs is accepted by the public key derived of it, and they are
 -- a pair where tr is the hash of that key's bytes; and keys that a seed generates are a pair, whose public key accepts what is signed
 abbrev pub SignedIsAccepted : Type 0
 SignedIsAccepted =

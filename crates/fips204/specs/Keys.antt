@@ -1,4 +1,4 @@
--- Keys as values, and key generation (FIPS 204, sections 3.3 and 7.2, Algorithm 6), over streams H and G.
+-- Keys as values, and key generation (FIPS 204, sections 3.3 and 7.2, Algorithm 6), over XOFs H and G.
 use Rattle.std.specs.Prelude.{◌≡◌, ℕ, List, take, Result, MatchResult, ◌≢◌, ◌↔◌, pos, Bool, IsTrue, Some, None}
 use Rattle.fips204_base.specs.Encodings.{PublicParts, PrivateParts, IsPrivateKeyOf, public_key_bytes}
 use Rattle.fips204_base.specs.Rounding.{power2round}
@@ -12,7 +12,7 @@ use Rattle.fips204_base.specs.declared.types.R.{R}
 use Rattle.fips204_base.specs.declared.types.T.{T}
 use Rattle.fips204.specs.ParameterSets.{ParameterSet}
 
--- what decoding answers: the private key that has these bytes, or a refusal where none has
+-- what decoding returns: the private key that has these bytes, or an error where none has
 abbrev pub DecodesPrivate : ℕ → ℕ → ℕ → Bytes → Result PrivateParts Fault → Type 0
 DecodesPrivate eta k l bytes answer = MatchResult answer (λ key. IsPrivateKeyOf eta k l bytes key) (λ fault. (fault ≡ KeyRange) × ((key : PrivateParts) → IsPrivateKeyOf eta k l bytes key → ⊥))
 
@@ -37,13 +37,13 @@ key_pair p H rho key a s1 s2 =
     let tr = take 64 (H (public_key_bytes rho t1)) in
     (record { rho = rho; tr = tr; t1 = t1 }, record { rho = rho; key = key; tr = tr; s1 = s1; s2 = s2; t0 = low_part p a s1 s2 })
 
--- a whole private key: rejection sampling gives its matrix, and its t0 comes of A s1 + s2 by power2round
+-- a consistent private key: rejection sampling gives its matrix, and its t0 comes of A s1 + s2 by power2round
 pub record IsWhole (p : ParameterSet) (G : XOF) (sk : PrivateParts) : Type 0 where
   pub matrix : List (List T)
   pub sampled : sampled_matrix G sk.rho p.k p.l ≡ Some matrix
   pub low : sk.t0 ≡ low_part p matrix sk.s1 sk.s2
 
--- an answer to whether a private key is whole; it is a refusal where there is no matrix, and only there
+-- whether a private key is consistent; an error where there is no matrix, and only there
 abbrev pub TellsWhole : ParameterSet → XOF → PrivateParts → Result Bool Fault → Type 0
 TellsWhole p G sk answer = MatchResult answer (λ whole. (sampled_matrix G sk.rho p.k p.l ≢ None) × (IsTrue whole ↔ IsWhole p G sk))
     (λ fault. (sampled_matrix G sk.rho p.k p.l ≡ None) × (fault ≡ SamplingLimit))

@@ -1,4 +1,4 @@
--- What stays where the fronts of two streams are prefixes of longer ones.
+-- What stays where the outputs of two XOFs are prefixes of longer ones.
 use Rattle.std.specs.Prelude.{◌≡◌, ◌≢◌, ◌<◌, ◌≤◌, ◌-◌, ◌⊎◌, ◌↔◌, ℕ, List, take, Some, None, Result, Err}
 use Rattle.fips204_base.specs.declared.fault.Fault.{Fault}
 use Rattle.fips204_base.specs.declared.fault.Fault.TheVariants.{SamplingLimit}
@@ -13,24 +13,24 @@ use Rattle.fips204.specs.Framing.{Input}
 use Rattle.fips204.specs.Refusals.{generated, derived, input_fault, sign_input, VerifiesInput}
 use Rattle.fips204.specs.Prepared.{prepared_private, prepared_public}
 
--- fronts in counter mode are prefixes of those with more blocks; so are those of the library's streams that differ in length alone
+-- outputs in counter mode are prefixes of those with more blocks; so are those of the library's XOFs that differ in length alone
 pub record CounterFrontsArePrefixes : Type 0 where
   pub blocks : (hash : Bytes → Bytes) (seed : Bytes) (n m : ℕ) → n ≤ m → IsPrefix (counter_blocks hash seed n) (counter_blocks hash seed m)
   pub sha256 : ArePrefixes sha256_front sha256_long_front
   pub sha512 : ArePrefixes sha512_front sha512_long_front
 
--- what a sampler gives over a front, it gives over the longer one
+-- what a sampler gives over an output, it gives over the longer one
 pub record SamplesStay (H G H' G' : XOF) : Type 0 where
   pub entries : (input : Bytes) (t : T) → matrix_entry (G input) ≡ Some t → matrix_entry (G' input) ≡ Some t
   pub matrices : (rho : Bytes) (k l : ℕ) (a : List (List T)) → sampled_matrix G rho k l ≡ Some a → sampled_matrix G' rho k l ≡ Some a
   pub small_polynomials : (eta : ℕ) (input : Bytes) (w : R) → small_polynomial eta (H input) ≡ Some w → small_polynomial eta (H' input) ≡ Some w
   pub challenges : (tau : ℕ) (input : Bytes) (c : R) → challenge tau (H input) ≡ Some c → challenge tau (H' input) ≡ Some c
 
--- an answer stays, unless it is the refusal for a passed limit on sampling
+-- a result stays, unless it is the error for a passed limit on sampling
 abbrev pub Stays : {A : Type 0} → Result A Fault → Result A Fault → Type 0
 Stays answer longer = answer ≢ Err SamplingLimit → longer ≡ answer
 
--- the answers of key generation, of the public key of a private key, of preparing, and of signing
+-- the results of key generation, of the public key of a private key, of preparing, and of signing
 pub record AnswersStay (p : ParameterSet) (H G H' G' : XOF) : Type 0 where
   pub key_pairs : (xi : Bytes) → Stays (generated p H G xi) (generated p H' G' xi)
   pub public_keys : (sk : PrivateParts) → Stays (derived p G sk) (derived p G' sk)
@@ -38,8 +38,8 @@ pub record AnswersStay (p : ParameterSet) (H G H' G' : XOF) : Type 0 where
   pub prepared_public_keys : (pk : PublicParts) → Stays (prepared_public p G pk) (prepared_public p G' pk)
   pub inputs : (sk : PrivateParts) (rnd : Bytes) (input : Input) → Stays (sign_input p H G sk rnd input) (sign_input p H' G' sk rnd input)
 
--- what decides a verdict whatever the fronts are longer by: the matrix of the public key is there, and so is the challenge of the
--- first bytes of the signature; or the signature has no parts with a small z
+-- what decides a verdict however much longer the outputs are: the matrix of the public key is there, and so is the challenge
+-- of the first bytes of the signature; or the signature has no parts with a small z
 pub data IsVerdictDecided (p : ParameterSet) (H G : XOF) (pk : PublicParts) (signature : Bytes) : Type 0 where
   sampled : (a : List (List T)) → sampled_matrix G pk.rho p.k p.l ≡ Some a
       → (c : R) → challenge p.tau (H (take (c_tilde_length p) signature)) ≡ Some c → IsVerdictDecided p H G pk signature
@@ -51,13 +51,13 @@ pub record YesAndNoStay (decided yes longer_yes : Type 0) : Type 0 where
   pub yes_stays : yes → longer_yes
   pub no_stays : decided → (yes ↔ longer_yes)
 
--- the answers of verifying, where a no for a broken condition stays too; and the public key that bytes decode to
+-- the results of verifying, where a no for a broken condition stays too; and the public key that bytes decode to
 pub record AcceptanceStays (p : ParameterSet) (H G H' G' : XOF) : Type 0 where
   pub inputs : (pk : PublicParts) (signature : Bytes) (input : Input)
       → YesAndNoStay (IsVerdictDecided p H G pk signature ⊎ (input_fault input ≢ None)) (VerifiesInput p H G pk signature input) (VerifiesInput p H' G' pk signature input)
   pub decoded : (bytes : Bytes) (pk : PublicParts) → IsPublicKeyOf H p.k bytes pk → IsPublicKeyOf H' p.k bytes pk
 
--- where each front of H and G is a prefix of that of H' and G', samples stay, and at each of the three sets so do answers
+-- where each output of H and G is a prefix of that of H' and G', samples stay, and at each of the three sets results do
 abbrev pub LongerFrontsKeep : XOF → XOF → XOF → XOF → Type 0
 LongerFrontsKeep H G H' G' =
     ArePrefixes H H' → ArePrefixes G G'

@@ -23,7 +23,7 @@ pub record PreparedPublic : Type 0 where
   pub parts : PublicParts
   pub matrix : List (List T)
 
--- preparing a key: its parts with the matrix of its seed, or the refusal where there is none
+-- preparing a key: its parts with the matrix of its seed, or an error where there is none
 abbrev pub prepared_private : ParameterSet → XOF → PrivateParts → Result PreparedPrivate Fault
 prepared_private p G sk = ok_or (option_map (λ a. record { parts = sk; matrix = a }) (sampled_matrix G sk.rho p.k p.l)) SamplingLimit
 
@@ -37,29 +37,29 @@ sign_prepared p H sk rnd input = refused_or (input_fault input) (sign_with p H s
 abbrev pub VerifiesPrepared : ParameterSet → XOF → PreparedPublic → Bytes → Input → Type 0
 VerifiesPrepared p H pk signature input = (input_fault input ≡ None) × Accepts p H pk.matrix pk.parts.t1 (representative H pk.parts.tr input) signature
 
--- random bytes and an answer for each message: what signs gives for these and the message
+-- random bytes and a result for each message: what signs gives for these and the message
 abbrev pub IsEachSigned : (Bytes → Bytes → Result Bytes Fault) → List Bytes → List Bytes → List (Result Bytes Fault) → Type 0
 IsEachSigned signs seeds messages answers = (length seeds ≡ length messages) × (length answers ≡ length messages)
     × ((i : ℕ) → i < length messages → slice_index_or answers i (Err SamplingLimit) ≡ signs (slice_index_or seeds i []) (slice_index_or messages i []))
 
--- a signature and an answer for each message: true if and only if it is accepted with the signature
+-- a signature and a result for each message: true if and only if it is accepted with the signature
 abbrev pub IsEachJudged : (Bytes → Bytes → Type 0) → List Bytes → List Bytes → List Bool → Type 0
 IsEachJudged accepts messages signatures answers = (length signatures ≡ length messages) × (length answers ≡ length messages)
     × ((i : ℕ) → i < length messages → IsTrue (slice_index_or answers i false) ↔ accepts (slice_index_or messages i []) (slice_index_or signatures i []))
 
--- a whole prepared private key: its t0 comes of A s1 + s2 by power2round; the public key that belongs to it has the high part
+-- a consistent prepared private key: its t0 comes of A s1 + s2 by power2round; the public key that belongs to it has the high part
 abbrev pub IsWholePrepared : ParameterSet → PreparedPrivate → Type 0
 IsWholePrepared p sk = sk.parts.t0 ≡ low_part p sk.matrix sk.parts.s1 sk.parts.s2
 
 abbrev pub public_of_prepared : ParameterSet → PreparedPrivate → PreparedPublic
 public_of_prepared p sk = record { parts = record { rho = sk.parts.rho; tr = sk.parts.tr; t1 = high_part p sk.matrix sk.parts.s1 sk.parts.s2 }; matrix = sk.matrix }
 
--- what signing an input answers with a whole prepared key is accepted by the public key that belongs to it
+-- what signing an input returns with a consistent prepared key is accepted by the public key that belongs to it
 abbrev pub AcceptedIfWholePrepared : ParameterSet → XOF → PreparedPrivate → Input → Result Bytes Fault → Type 0
 AcceptedIfWholePrepared p H sk input answer =
     AcceptedIfWhole (IsWholePrepared p sk) (Ok (public_of_prepared p sk)) (λ pk signature. VerifiesPrepared p H pk signature input) answer
 
--- a prepared key answers as its plain key, is whole if and only if that is, and its public key is the derived one, prepared
+-- a prepared key returns what its plain key does, is consistent if and only if that is, and its public key is the derived one, prepared
 pub record PreparedAnswersAsPlain (p : ParameterSet) (H G : XOF) : Type 0 where
   pub sign_inputs : (sk : PrivateParts) (prepared : PreparedPrivate) (rnd : Bytes) (input : Input) → prepared_private p G sk ≡ Ok prepared
       → sign_prepared p H prepared rnd input ≡ sign_input p H G sk rnd input

@@ -28,7 +28,7 @@ IsRow l row = (length row ≡ l) × All IsEntry row
 abbrev pub IsMatrix : ℕ → ℕ → List (List T) → Type 0
 IsMatrix k l a = (length a ≡ k) × All (IsRow l) a
 
--- an answer that P holds of, or none where P holds of nothing
+-- a result that P holds of, or none where P holds of nothing
 abbrev pub Decodes : {A : Type 0} → (A → Type 0) → Option A → Type 0
 Decodes {A} P answer = MatchOption answer ((x : A) → P x → ⊥) P
 
@@ -58,7 +58,7 @@ pub record IsPreparedPrivateOf (eta k l : ℕ) (bytes : Bytes) (sk : PreparedPri
   pub matrix : IsMatrix k l sk.matrix
   pub encoding : prepared_private_bytes eta sk ≡ bytes
 
--- the bytes of a key that was prepared have the set's length, and what is read from them is that key and nothing else
+-- a prepared key's bytes have the parameter set's length, and what is read from them is that key and nothing else
 pub record PreparedThroughBytes (p : ParameterSet) (G : XOF) : Type 0 where
   pub public_length : (pk : PublicParts) (prepared : PreparedPublic) → ArePublicParts p.k pk → prepared_public p G pk ≡ Ok prepared
       → length (prepared_public_bytes prepared) ≡ prepared_public_length p

@@ -1,5 +1,5 @@
--- Whole calls, with their refusals in order (FIPS 204, Algorithms 1 to 5, 7 and 8).
-use Rattle.std.specs.Prelude.{◌≡◌, ◌⊎◌, ℕ, [], ◌∷◌, ◌++◌, length, take, drop, nat_lt, Option, Some, None, option_map, option_and_then, Result, Err, IfErr, ok_or, Bool, true, false, replicate, if◌then◌else◌}
+-- Whole calls, with their errors in order (FIPS 204, Algorithms 1 to 5, 7 and 8).
+use Rattle.std.specs.Prelude.{◌≡◌, ◌⊎◌, ℕ, [], ◌∷◌, ◌++◌, length, take, drop, nat_lt, Option, Some, None, option_map, option_and_then, Result, Ok, Err, IfErr, MatchResult, ⊤, ok_or, Bool, true, false, replicate, if◌then◌else◌}
 use Rattle.fips204_base.specs.Encodings.{PublicParts, PrivateParts}
 use Rattle.fips204_base.specs.Sampling.{sampled_matrix, small_vectors}
 use Rattle.fips204_base.specs.Streams.{Bytes, XOF}
@@ -11,7 +11,7 @@ use Rattle.fips204.specs.Framing.{Input, plain, hashed, pre_hash_fault, framed, 
 use Rattle.fips204.specs.Signing.{sign}
 use Rattle.fips204.specs.Acceptance.{Verifies}
 
--- a refusal that stands first, or else the answer
+-- an error that stands first, or else the result
 abbrev pub refused_or : {A : Type 0} → Option Fault → Result A Fault → Result A Fault
 refused_or None answer = answer
 refused_or (Some fault) answer = Err fault
@@ -23,7 +23,7 @@ input_fault (hashed digest context oid) = if nat_lt 255 (length context) then So
 input_fault (framed m) = None
 input_fault (represented mu) = None
 
--- ML-DSA.KeyGen (Algorithms 1 and 6) from the seed xi: H over xi, byte k and byte l gives rho, rho' and K; a refusal where a sampler gives none
+-- ML-DSA.KeyGen (Algorithms 1 and 6) from the seed xi: H over xi, byte k and byte l gives rho, rho' and K; an error where a sampler gives none
 unfoldable pub generated : ParameterSet → XOF → XOF → Bytes → Result (PublicParts × PrivateParts) Fault
 generated p H G xi =
     let seeds = H (xi ++ p.k ∷ p.l ∷ []) in
@@ -32,7 +32,7 @@ generated p H G xi =
     let key = take 32 (drop 96 seeds) in
     ok_or (option_and_then (λ a. option_map (λ small. key_pair p H rho key a small.0 small.1) (small_vectors p.eta H rho' p.k p.l)) (sampled_matrix G rho p.k p.l)) SamplingLimit
 
--- the public key of a private key: its rho and tr, and the high part of A s1 + s2; a refusal where there is no matrix
+-- the public key of a private key: its rho and tr, and the high part of A s1 + s2; an error where there is no matrix
 unfoldable pub derived : ParameterSet → XOF → PrivateParts → Result PublicParts Fault
 derived p G sk = ok_or (option_map (λ a. record { rho = sk.rho; tr = sk.tr; t1 = high_part p a sk.s1 sk.s2 }) (sampled_matrix G sk.rho p.k p.l)) SamplingLimit
 
@@ -44,17 +44,21 @@ sign_input p H G sk rnd input = refused_or (input_fault input) (sign p H G sk (r
 abbrev pub VerifiesInput : ParameterSet → XOF → XOF → PublicParts → Bytes → Input → Type 0
 VerifiesInput p H G pk signature input = (input_fault input ≡ None) × Verifies p H G pk (representative H pk.tr input) signature
 
--- an answer's one refusal is that a sampler reached its limit
+-- a call that writes into an array: what is made stands there; or the array is as it was, and the result says why
+abbrev pub Writes : Result Bytes Fault → Bytes → Bytes → Result ⊤ Fault → Type 0
+Writes made old new result = MatchResult made (λ bytes. (new ≡ bytes) × (result ≡ Ok tt)) (λ fault. (new ≡ old) × (result ≡ Err fault))
+
+-- a result's one error is that a sampler reached its limit
 abbrev pub OnlySamplingLimit : {A : Type 0} → Result A Fault → Type 0
 OnlySamplingLimit answer = IfErr answer (λ fault. fault ≡ SamplingLimit)
 
--- what a call answers that asks a generator once, for 32 bytes: the answer over bytes that it gave, or the refusal where it
--- refused; gives and refuses are what the generator states of such a call, from before to after
+-- what a call returns that asks a generator once, for 32 bytes: the result over bytes that it gave, or the error where
+-- it failed; gives and refuses are what the generator states of such a call, from before to after
 abbrev pub Draws : {S A : Type 0} → (S → ℕ → Bytes → S → Type 0) → (S → ℕ → S → Type 0) → S → S → Fault → (Bytes → Result A Fault) → Result A Fault → Type 0
 Draws gives refuses before after refusal answer result =
     ((bytes : Bytes) × gives before 32 bytes after × (length bytes ≡ 32) × (result ≡ answer bytes)) ⊎ (refuses before 32 after × (result ≡ Err refusal))
 
--- the same with a refusal that stands before the generator, which then stays as it was
+-- the same with an error that stands before the generator, which then stays as it was
 abbrev pub DrawsUnless : {S A : Type 0} → Option Fault → (S → ℕ → Bytes → S → Type 0) → (S → ℕ → S → Type 0) → S → S → Fault → (Bytes → Result A Fault) → Result A Fault → Type 0
 DrawsUnless None gives refuses before after refusal answer result = Draws gives refuses before after refusal answer result
 DrawsUnless (Some fault) gives refuses before after refusal answer result = (after ≡ before) × (result ≡ Err fault)

@@ -1,5 +1,5 @@
--- What rounding, hints, challenges, packing and spellings promise, what M' and a signature determine, and which refusals there are (FIPS 204, 2.3, 5, 6, 7.1, 7.4).
-use Rattle.std.specs.Prelude.{◌≡◌, ◌⊎◌, ◌<◌, ◌≤◌, ℕ, ◌+◌, ◌-◌, ◌*◌, ◌%◌, List, pos, ◌-ℤ◌, nat_abs, true, false, length, Some, ◌≢◌, ◌++◌, take, None, IsTrue, Option, Bool, IfErr}
+-- What rounding, hints, challenges, packing and spellings promise, what M' and a signature determine, and which errors there are (FIPS 204, 2.3, 5, 6, 7.1, 7.4).
+use Rattle.std.specs.Prelude.{◌≡◌, ◌↔◌, ◌⊎◌, ◌<◌, ◌≤◌, ℕ, ◌+◌, ◌-◌, ◌*◌, ◌%◌, List, pos, ◌-ℤ◌, nat_abs, true, false, length, Some, ◌≢◌, ◌++◌, take, None, IsTrue, Option, Bool, IfErr}
 use Rattle.std.specs.List.{All}
 use Rattle.fips204_base.specs.Encodings.{PublicParts, PrivateParts, IsPublicKeyOf, IsSignature, Spells, all_ones, hint_bytes}
 use Rattle.fips204_base.specs.Bounds.{PolynomialInRange}
@@ -80,11 +80,22 @@ framing (hashed digest context oid) = Some (frame 1 context (oid ++ digest))
 framing (framed m) = Some m
 framing (represented mu) = None
 
+-- the hooks stand for an input that breaks no condition: signing and judging its mu, made with the key's tr, or its M', is signing and judging it
+pub record HooksStandForInput (p : ParameterSet) (H G : XOF) : Type 0 where
+  pub signed_mu : (sk : PrivateParts) (rnd : Bytes) (input : Input) → input_fault input ≡ None
+      → sign_input p H G sk rnd (represented (representative H sk.tr input)) ≡ sign_input p H G sk rnd input
+  pub judged_mu : (pk : PublicParts) (signature : Bytes) (input : Input) → input_fault input ≡ None
+      → VerifiesInput p H G pk signature (represented (representative H pk.tr input)) ↔ VerifiesInput p H G pk signature input
+  pub signed_framed : (sk : PrivateParts) (rnd : Bytes) (input : Input) (m : Bytes) → input_fault input ≡ None → framing input ≡ Some m
+      → sign_input p H G sk rnd (framed m) ≡ sign_input p H G sk rnd input
+  pub judged_framed : (pk : PublicParts) (signature : Bytes) (input : Input) (m : Bytes) → input_fault input ≡ None → framing input ≡ Some m
+      → VerifiesInput p H G pk signature (framed m) ↔ VerifiesInput p H G pk signature input
+
 -- messages and digests that break no condition have the same M' only if they are the same, mode and part by part
 abbrev pub FramingIsOneToOne : Type 0
 FramingIsOneToOne = (x y : Input) → IsTrue (has_context x) → IsTrue (has_context y) → input_fault x ≡ None → input_fault y ≡ None → framing x ≡ framing y → x ≡ y
 
--- two inputs of a stream that differ and have the same first n bytes
+-- two inputs of an XOF that differ and have the same first n bytes of output
 pub record Collide (H : XOF) (n : ℕ) (x y : Bytes) : Type 0 where
   pub differ : x ≢ y
   pub same : take n (H x) ≡ take n (H y)
@@ -166,7 +177,7 @@ OtherHintCollides =
     → take (c_tilde_length p + 32 * width (pos (p.gamma1 - 1)) (pos p.gamma1) * p.l) first ≡ take (c_tilde_length p + 32 * width (pos (p.gamma1 - 1)) (pos p.gamma1) * p.l) second
     → VerifiesInput p H G pk first input → VerifiesInput p H G pk second input → NamesHintCollision p H G pk (representative H pk.tr input) first second
 
--- making, deriving and preparing keys refuse at a sampler's limit alone; signing also where its input breaks a condition or no attempt passes
+-- making, deriving and preparing keys fail at a sampler's limit alone; signing also where its input breaks a condition or no attempt passes
 pub record RefusesOnly (p : ParameterSet) (H G : XOF) : Type 0 where
   pub pairs : (xi : Bytes) → OnlySamplingLimit (generated p H G xi)
   pub derived_keys : (sk : PrivateParts) → OnlySamplingLimit (derived p G sk)

@@ -49,7 +49,7 @@ passes_checks p sk y w c =
     && nat_lt (vector_norm (ct0 p sk c)) p.gamma2
     && nat_le (length (all_ones (hint_vector p sk w c))) p.omega
 
--- the attempt at counter kappa, with matrix a and the masks' seed rho'': a signature, none if rejected, a refusal if there is no challenge
+-- the attempt at counter kappa, with matrix a and the masks' seed rho'': a signature, none if rejected, an error if there is no challenge
 unfoldable pub attempt : ParameterSet → XOF → List (List T) → PrivateParts → Bytes → Bytes → ℕ → Result (Option Bytes) Fault
 attempt p H a sk mu rho'' kappa =
     let y = mask p.gamma1 H rho'' p.l kappa in
@@ -59,7 +59,7 @@ attempt p H a sk mu rho'' kappa =
     let checked = λ (c : R). if passes_checks p sk y w c then Some (signature_bytes p.gamma1 p.omega c_tilde (response p sk y c) (hint_vector p sk w c)) else None in
     ok_or (option_map checked (challenge p.tau (H c_tilde))) SamplingLimit
 
--- the answer of the first attempt that isn't rejected
+-- the result of the first attempt that isn't rejected
 unfoldable pub first_answer : List (Result (Option Bytes) Fault) → Result Bytes Fault
 first_answer [] = Err TooManyAttempts
 first_answer (Err fault ∷ later) = Err fault
@@ -72,6 +72,6 @@ sign_with p H a sk mu rnd =
     let rho'' = take 64 (H (sk.key ++ rnd ++ mu)) in
     first_answer (map (λ n. attempt p H a sk mu rho'' (n * p.l)) (range_with_len 0 814))
 
--- ML-DSA.Sign_internal (Algorithm 7) from mu and rnd, with a plain key: with the matrix of its seed, or a refusal where there is none
+-- ML-DSA.Sign_internal (Algorithm 7) from mu and rnd, with a plain key: with the matrix of its seed, or an error where there is none
 unfoldable pub sign : ParameterSet → XOF → XOF → PrivateParts → Bytes → Bytes → Result Bytes Fault
 sign p H G sk mu rnd = unwrap_or (option_map (λ a. sign_with p H a sk mu rnd) (sampled_matrix G sk.rho p.k p.l)) (Err SamplingLimit)

@@ -1,10 +1,10 @@
--- What private functions of signing take and answer: cited by no public clause; nobody has to believe it.
-use Rattle.std.specs.Prelude.{◌≡◌, ◌⊎◌, ◌+◌, ◌-◌, ◌*◌, ◌%◌, ◌<◌, ◌≤◌, ℕ, List, [], ◌∷◌, ◌++◌, length, take, slice_index, Bool, ◌&&◌, nat_eq, nat_lt, nat_le, if◌then◌else◌, Option, Some, None, Result, Ok, ℤ, pos, slice_index_or, option_map, ok_or}
-use Rattle.fips204_base.specs.Encodings.{PrivateParts, IsSignature, signature_bytes, is_one}
+-- What private functions of key generation and signing take and return: cited by no public clause;
+-- nobody has to believe it.
+use Rattle.std.specs.Prelude.{◌≡◌, ◌+◌, ◌-◌, ◌*◌, ◌%◌, ◌<◌, ◌≤◌, ℕ, List, [], length, take, slice_index, Bool, ◌&&◌, nat_eq, nat_lt, nat_le, if◌then◌else◌, Option, Some, None, Result, Ok, Err, true, false, ℤ, pos, slice_index_or, option_map, ok_or}
+use Rattle.fips204_base.specs.Encodings.{PublicParts, PrivateParts, IsSignature, public_key_bytes, signature_bytes, is_one}
 use Rattle.fips204_base.specs.Residues.{vector_norm, coefficients}
 use Rattle.fips204_base.specs.Rounding.{make_hint, use_hint}
 use Rattle.fips204_base.specs.Sampling.{challenge}
-use Rattle.fips204_base.specs.Transforms.{product}
 use Rattle.fips204_base.specs.Vectors.{IsVector, vector_coefficients, vector_of}
 use Rattle.fips204_base.specs.PlainTransforms.{AreSameModQ}
 use Rattle.fips204_base.specs.Bounds.{PolynomialWithin, VectorWithin}
@@ -19,6 +19,12 @@ use Rattle.fips204.specs.Signing.{response, hint_vector, passes_checks}
 use Rattle.fips204.specs.declared.types.Params.{Params}
 use Rattle.fips204.specs.declared.types.prepared.KeyTransforms.{KeyTransforms}
 
+-- both keys by their seeds and vectors; tr is the hash of the public key's bytes
+abbrev pub pair_of : (List ℕ → List ℕ) → List ℕ → List ℕ → List R → List R → List R → List R → PublicParts × PrivateParts
+pair_of H rho key s1 s2 t1 t0 =
+    let tr = take 64 (H (public_key_bytes rho t1)) in
+    (record { rho = rho; tr = tr; t1 = t1 }, record { rho = rho; key = key; tr = tr; s1 = s1; s2 = s2; t0 = t0 })
+
 -- what multiplies is s1, of l polynomials, and s2 and t0, of k each
 pub record AreKeyTransforms (k l : ℕ) (sk : PrivateParts) (t : KeyTransforms) : Type 0 where
   pub first : AreSameModQ l t.s1_hat sk.s1
@@ -29,8 +35,8 @@ pub record AreKeyTransforms (k l : ℕ) (sk : PrivateParts) (t : KeyTransforms) 
 abbrev pub AreShifted : ℕ → List R → List R → Type 0
 AreShifted k t1 v = (r n : ℕ) → r < k → n < 256 → vector_coefficients v r n ≡ 8192 * vector_coefficients t1 r n % 8380417
 
--- what an attempt takes beside the key: a set whose sizes the call has, and a counter of its masks that leaves room for one of
--- each row
+-- what an attempt takes beside the key: a parameter set whose sizes the call has, and a counter of its masks that leaves room
+-- for one of each row
 pub record AreAttemptInputs (p : Params) (k l s : ℕ) (kappa : ℕ) : Type 0 where
   pub sizes : HasSizes (set_of p) k l s
   pub counter : kappa + l ≤ 65536
@@ -48,11 +54,17 @@ pub record AreCheckInputs (p : Params) (k l s : ℕ) (c_tilde : List ℕ) (y w :
   pub product : VectorWithin k 8380416 w
   pub challenge : PolynomialWithin 8380416 c.0
 
+-- what an attempt made, by its result and the array that it may have written
+abbrev pub attempted : List ℕ → Result Bool Fault → Result (Option (List ℕ)) Fault
+attempted bytes (Ok true) = Ok (Some bytes)
+attempted bytes (Ok false) = Ok None
+attempted bytes (Err fault) = Err fault
+
 -- what is multiplied by d is multiplied by c
 abbrev pub IsFactorOf : R → R → Type 0
 IsFactorOf d c = (j : ℕ) → j < 256 → coefficients d.0 j ≡ coefficients c.0 j
 
--- mu of an input under a key's hash tr, or the refusal
+-- mu of an input under a key's hash tr, or the error
 abbrev pub input_hash : (List ℕ → List ℕ) → List ℕ → Input → Result (List ℕ) Fault
 input_hash H tr input = refused_or (input_fault input) (Ok (representative H tr input))
 

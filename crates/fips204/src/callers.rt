@@ -4,29 +4,35 @@
 
 ghost use Rattle.std.specs.Prelude.{◌≡◌, ◌≢◌, ◌↔◌, ◌<◌, ◌≤◌, ◌+◌, ◌*◌, ◌%◌, ◌^◌, ◌++◌, ℕ, pos, ◌-ℤ◌, nat_abs, length};
 ghost use Rattle.std.specs.Prelude.{List, [], true, false, Some, None, Ok, Err, IfOk, IfSome, IsTrue, MatchResult};
-ghost use Rattle.std.specs.Prelude.{replicate, slice_index_or, ◌⊎◌, ◌∷◌, Bool, Result, IfErr, take};
+ghost use Rattle.std.specs.Prelude.{replicate, slice_index_or, ◌⊎◌, ◌∷◌, ◌-◌, Bool, Result, IfErr, take};
+ghost use Rattle.std.specs.List.{All};
 ghost use Rattle.fips204.specs.Framing.{plain, hashed, Input, frame, framed, represented, hash_oid, representative};
 ghost use Rattle.fips204.specs.Keys.{IsWhole};
 ghost use Rattle.fips204.specs.LongerFronts.{IsVerdictDecided};
-ghost use Rattle.fips204.specs.ParameterSets.{set_44};
+ghost use Rattle.fips204.specs.ParameterSets.{ParameterSet, IsSet, c_tilde_length, set_44};
 ghost use Rattle.fips204.specs.Prepared.{sign_prepared, VerifiesPrepared, PreparedPrivate, PreparedPublic};
 ghost use Rattle.fips204.specs.Prepared.{prepared_private, prepared_public, public_of_prepared, IsWholePrepared};
 ghost use Rattle.fips204.specs.Prepared.{IsEachSigned, IsEachJudged};
 ghost use Rattle.fips204.specs.Refusals.{generated, input_fault, VerifiesInput, derived, sign_input, OnlySamplingLimit};
-ghost use Rattle.fips204.specs.SchemeLaws.{NamesCollision, NamesKeyCollision, Fixes};
+ghost use Rattle.fips204.specs.SchemeLaws.{NamesCollision, NamesHintCollision, NamesKeyCollision, Fixes, framing};
 ghost use Rattle.fips204.specs.declared.ml_dsa.signing.TheConstants.{MAX_SIGN_ATTEMPTS};
 ghost use Rattle.fips204.specs.declared.ml_dsa_44.TheConstants.{PK_LEN, SK_LEN, SIG_LEN};
-ghost use Rattle.fips204.specs.declared.types.pre_hash.TheConstants.{MAX_PREHASH_LEN, SHA2_256, SHA2_512_256, SHA3_256};
-ghost use Rattle.fips204.specs.declared.types.pre_hash.TheConstants.{SHAKE_128};
+ghost use Rattle.fips204.specs.declared.ml_dsa_65.TheConstants as lengths_65;
+ghost use Rattle.fips204.specs.declared.ml_dsa_87.TheConstants as lengths_87;
+ghost use Rattle.fips204.specs.declared.types.pre_hash.TheConstants.{MAX_PREHASH_LEN, SHA2_224, SHA2_256, SHA2_384};
+ghost use Rattle.fips204.specs.declared.types.pre_hash.TheConstants.{SHA2_512, SHA2_512_224, SHA2_512_256, SHA3_224};
+ghost use Rattle.fips204.specs.declared.types.pre_hash.TheConstants.{SHA3_256, SHA3_384, SHA3_512, SHAKE_128};
+ghost use Rattle.fips204.specs.declared.types.pre_hash.TheConstants.{SHAKE_256};
 ghost use Rattle.fips204_base.specs.Bounds.{PolynomialInRange};
 ghost use Rattle.fips204_base.specs.Encodings.{PublicParts, IsSignature, Spells, all_ones, hint_bytes, PrivateParts};
 ghost use Rattle.fips204_base.specs.Encodings.{ArePublicParts, ArePrivateParts, IsPublicKeyOf, public_key_bytes};
 ghost use Rattle.fips204_base.specs.Encodings.{private_key_bytes};
+ghost use Rattle.fips204_base.specs.Packing.{polynomial_bytes, unpacked, width};
 ghost use Rattle.fips204_base.specs.Residues.{centred, coefficients, norm};
 ghost use Rattle.fips204_base.specs.Rounding.{high_bits, low_bits, make_hint, use_hint};
 ghost use Rattle.fips204_base.specs.Sampling.{challenge, matrix_entry, sampled_matrix, small_polynomial};
 ghost use Rattle.fips204_base.specs.Streams.{counter_blocks, sha256_front, sha256_long_front, sha512_front};
-ghost use Rattle.fips204_base.specs.Streams.{sha512_long_front, IsPrefix, ArePrefixes};
+ghost use Rattle.fips204_base.specs.Streams.{sha512_long_front, IsPrefix, ArePrefixes, Bytes, XOF};
 ghost use Rattle.fips204_base.specs.Transforms.{bit_reversed, inverse_transform, pointwise, product, transform};
 ghost use Rattle.fips204_base.specs.Vectors.{IsVector, polynomial_of};
 ghost use Rattle.fips204_base.specs.declared.TheConstants.{Q, ZETA, D};
@@ -39,8 +45,8 @@ ghost use Rattle.fips204_base.specs.declared.types.TheConstants.{R0, T0};
 
 use crate::laws::{
     binding, challenge_product_bound, constants, counter_fronts, framing, high_bits_stay,
-    hint_spelling, inverse_of_transform, key_bytes, known_set, longer_front, longer_functions,
-    packing, prepared_keys, product_of_transforms, refusals, signature_spelling,
+    hint_spelling, hooks, inverse_of_transform, key_bytes, known_set, longer_front,
+    longer_functions, packing, prepared_keys, product_of_transforms, refusals, signature_spelling,
     signed_is_accepted, use_hint_distance, use_hint_of_make_hint,
 };
 use crate::ml_dsa::key_gen_internal;
@@ -54,8 +60,8 @@ use crate::xof::{Fill, Sha256Ctr, Sha256CtrLong, Sha512Ctr, Sha512CtrLong, Xof};
 use fips204_base::Fault;
 use fips204_base::conversion::{bit_pack, bit_unpack, simple_bit_pack, simple_bit_unpack};
 
-/// The public key that is derived from the private key of a seed, and whether that private key is whole. It is the
-/// public key of the seed, the private key is whole, and neither call adds an error.
+/// The public key that is derived from the private key of a seed, and whether that private key is consistent. It is the
+/// public key of the seed, the private key is consistent, and neither call adds an error.
 pub(crate) fn pair_of_seed<H: Xof, G: Xof>(xi: &[u8; 32]) -> Result<(PublicKey<H, G>, bool), Fault>
     ensures { MatchResult (generated set_44 H.front G.front xi.now) (λ (pk, _). result ≡ Ok (pk, true))
         (λ fault. result ≡ Err fault) }
@@ -67,7 +73,7 @@ pub(crate) fn pair_of_seed<H: Xof, G: Xof>(xi: &[u8; 32]) -> Result<(PublicKey<H
     Ok((derived, whole))
 }
 
-/// Whether the derived public key of a whole private key, prepared, accepts what the private key signs, prepared.
+/// Whether the derived public key of a consistent private key, prepared, accepts what the private key signs, prepared.
 /// It does, if there is no error.
 pub(crate) fn prepared_accepts<H: Xof, G: Xof>(
     private: &PrivateKey<H, G>,
@@ -147,8 +153,8 @@ where
     Ok(public.hash_verify(digest, &signature, ctx, oid))
 }
 
-/// Whether the public key that belongs to a whole private key of any kind accepts its signature of a digest. It does,
-/// if there is no error.
+/// Whether the public key that belongs to a consistent private key of any kind accepts its signature of a digest. It
+/// does, if there is no error.
 pub(crate) fn derived_accepts_digest<K: Signer>(
     key: &K,
     rnd: &[u8; 32],
@@ -185,7 +191,7 @@ where
     Ok(public.verify(message, &signature, ctx))
 }
 
-/// Signs under a context that is too long, with a key of any kind: refused for that, whatever the key is.
+/// Signs under a context that is too long, with a key of any kind: rejected for that, whatever the key is.
 pub(crate) fn long_context_refused<K: Signer>(
     key: &K,
     rnd: &[u8; 32],
@@ -211,7 +217,7 @@ pub(crate) fn long_context_rejected<K: Verifier>(
     key.verify(message, signature, ctx)
 }
 
-/// The bytes of the matrix of any set, 1024 for each entry, and of a signature: at most those of the largest set.
+/// The bytes of the matrix of any parameter set, 1024 for each entry, and of a signature: at most those of the largest.
 pub(crate) fn matrix_and_signature_len<
     S,
     const ROWS: usize,
@@ -227,7 +233,7 @@ where
     ROWS * (COLUMNS * 1024) + SIG
 }
 
-/// The bytes of both keys of any set: at most those of the largest set.
+/// The bytes of both keys of any parameter set: at most those of the largest.
 pub(crate) fn key_pair_len<
     S,
     const ROWS: usize,
@@ -289,7 +295,7 @@ pub(crate) fn second_of_two<H: Xof>(
     answers[1]
 }
 
-/// Whether one signature is accepted for two messages, over streams of one byte. Each two inputs collide there, so
+/// Whether one signature is accepted for two messages, over XOFs of one byte. Each two inputs collide there, so
 /// what the clause says of a true is that the signature fixes its w1 under the key.
 pub(crate) fn accepted_for_both_over_one_byte(
     key: &PublicKey<Fill<0x55>, Fill<0x55>>,
@@ -307,7 +313,7 @@ pub(crate) fn accepted_for_both_over_one_byte(
 }
 
 /// Whether one signature of a message is accepted under two keys. If the keys have other bytes, that is a collision
-/// of the stream `H`, and the clause names it.
+/// of the XOF `H`, and the clause names it.
 pub(crate) fn accepted_under_both<H: Xof, G: Xof>(
     bytes: [u8; PK_LEN],
     others: [u8; PK_LEN],
@@ -338,7 +344,7 @@ pub(crate) fn one_message()
     framing();
 }
 
-/// Parts have one spelling as a signature of set 44, and bytes have one c_tilde, one z and one hint.
+/// Parts have one spelling as a signature of ML-DSA-44, and bytes have one c_tilde, one z and one hint.
 pub(crate) fn one_signature()
     ensures bytes { (first second c_tilde : List ℕ) (z h : List R) → IsSignature 131072 80 4 4 32 first c_tilde z h
         → IsSignature 131072 80 4 4 32 second c_tilde z h → first ≡ second }
@@ -348,7 +354,7 @@ pub(crate) fn one_signature()
     signature_spelling();
 }
 
-/// A hint of set 44 has a spelling, and one alone, and bytes spell one hint.
+/// A hint of ML-DSA-44 has a spelling, and one alone, and bytes spell one hint.
 pub(crate) fn one_hint()
     ensures spelled { (h : List R) → IsVector 4 0 1 h → length (all_ones h) ≤ 80 → Spells 80 4 h (hint_bytes 80 h) }
     ensures bytes { (first second : List ℕ) (h : List R) → Spells 80 4 h first → Spells 80 4 h second → first ≡ second }
@@ -357,7 +363,7 @@ pub(crate) fn one_hint()
     hint_spelling();
 }
 
-/// A verdict over the streams in counter mode that is decided stays over the longer ones.
+/// A verdict over the XOFs in counter mode that is decided stays over the longer ones.
 pub(crate) fn decided_verdict()
     ensures { (pk : PublicParts) (input : Input) (signature : List ℕ)
         → IsVerdictDecided set_44 sha256_front sha512_front pk signature
@@ -368,7 +374,7 @@ pub(crate) fn decided_verdict()
     longer_front::<Sha256Ctr, Sha512Ctr, Sha256CtrLong, Sha512CtrLong>();
 }
 
-/// Two blocks of any stream in counter mode are a prefix of five.
+/// Two blocks of any XOF in counter mode are a prefix of five.
 pub(crate) fn two_blocks_of_five()
     ensures { (hash : List ℕ → List ℕ) (seed : List ℕ)
         → IsPrefix (counter_blocks hash seed 2) (counter_blocks hash seed 5) }
@@ -392,7 +398,7 @@ pub(crate) fn second_verdict<H: Xof>(
     answers[1]
 }
 
-/// How many columns a set with six rows has: its numbers are those of one of the three sets.
+/// How many columns a parameter set with six rows has: its numbers are those of one of the three.
 pub(crate) fn columns_of_six_rows(p: &Params) -> usize
     requires { p.now.k ≡ 6 }
     ensures { result ≡ 5 }
@@ -419,7 +425,7 @@ pub(crate) fn last_by_transforms()
     inverse_of_transform();
 }
 
-/// Hints and high bits of set 44, up to the bounds of the laws.
+/// Hints and high bits of ML-DSA-44, up to the bounds of the laws.
 pub(crate) fn rounding_of_44()
     ensures hint { (z r : ℕ) → r < 8380417 → z < 8380417 → nat_abs (centred (pos z)) ≤ 95232
         → use_hint 95232 (make_hint 95232 z r) r ≡ high_bits 95232 ((r + z) % 8380417) }
@@ -435,7 +441,7 @@ pub(crate) fn rounding_of_44()
     high_bits_stay();
 }
 
-/// A challenge of set 44 times a polynomial of norm 2.
+/// A challenge of ML-DSA-44 times a polynomial of norm 2.
 pub(crate) fn product_of_44()
     ensures { (front : List ℕ) (c s : R) → challenge 39 front ≡ Some c → norm s.0 ≤ 2
         → norm (polynomial_of (λ n. pos (product (coefficients c.0) (coefficients s.0) n))).0 ≤ 78 }
@@ -456,15 +462,15 @@ pub(crate) fn constants_in_digits()
     ensures sha2_512 { SHA2_512_256 ≡ hash_oid 6 }
     ensures sha3 { SHA3_256 ≡ hash_oid 8 }
     ensures shake { SHAKE_128 ≡ hash_oid 11 }
-    ensures public_key { PK_LEN ≡ 1312 }
-    ensures private_key { SK_LEN ≡ 2560 }
-    ensures signature { SIG_LEN ≡ 2420 }
+    ensures public_key { (PK_LEN ≡ 1312) × (lengths_65.PK_LEN ≡ 1952) × (lengths_87.PK_LEN ≡ 2592) }
+    ensures private_key { (SK_LEN ≡ 2560) × (lengths_65.SK_LEN ≡ 4032) × (lengths_87.SK_LEN ≡ 4896) }
+    ensures signature { (SIG_LEN ≡ 2420) × (lengths_65.SIG_LEN ≡ 3309) × (lengths_87.SIG_LEN ≡ 4627) }
 {
     constants();
 }
 
-/// What a whole key from elsewhere is to the public key that is derived from it, and in which range the keys of a seed
-/// are.
+/// What a consistent key from elsewhere is to the public key that is derived from it, and in which range the keys of a
+/// seed are.
 pub(crate) fn keys_and_pairs<H: Xof, G: Xof>()
     ensures accepted { (pk : PublicParts) (sk : PrivateParts) (rnd signature : List ℕ) (input : Input)
         → ArePrivateParts 2 4 4 sk
@@ -492,7 +498,7 @@ pub(crate) fn one_key()
     key_bytes();
 }
 
-/// What prepared keys answer, one signature and one of many, and what their public key is.
+/// What prepared keys return, one signature and one of many, and what their public key is.
 pub(crate) fn prepared_parts<H: Xof, G: Xof>()
     ensures signed { (sk : PrivateParts) (key : PreparedPrivate) (rnd : List ℕ) (input : Input)
         → prepared_private set_44 G.front sk ≡ Ok key → sign_prepared set_44 H.front key rnd input
@@ -537,7 +543,26 @@ pub(crate) fn refused_parts<H: Xof, G: Xof>()
     refusals();
 }
 
-/// What stays under longer fronts, sample by sample and answer by answer.
+/// What the hooks return for the mu and for the framed message of an input.
+pub(crate) fn hook_parts()
+    ensures signed_mu { (p : ParameterSet) (H G : List ℕ → List ℕ) (sk : PrivateParts) (rnd : List ℕ) (input : Input)
+        → input_fault input ≡ None
+        → sign_input p H G sk rnd (represented (representative H sk.tr input)) ≡ sign_input p H G sk rnd input }
+    ensures judged_mu { (p : ParameterSet) (H G : List ℕ → List ℕ) (pk : PublicParts) (signature : List ℕ)
+        (input : Input) → input_fault input ≡ None
+        → VerifiesInput p H G pk signature (represented (representative H pk.tr input))
+        ↔ VerifiesInput p H G pk signature input }
+    ensures signed_framed { (p : ParameterSet) (H G : List ℕ → List ℕ) (sk : PrivateParts) (rnd : List ℕ)
+        (input : Input) (m : List ℕ) → input_fault input ≡ None → framing input ≡ Some m
+        → sign_input p H G sk rnd (framed m) ≡ sign_input p H G sk rnd input }
+    ensures judged_framed { (p : ParameterSet) (H G : List ℕ → List ℕ) (pk : PublicParts) (signature : List ℕ)
+        (input : Input) (m : List ℕ) → input_fault input ≡ None → framing input ≡ Some m
+        → VerifiesInput p H G pk signature (framed m) ↔ VerifiesInput p H G pk signature input }
+{
+    hooks();
+}
+
+/// What stays under longer outputs, sample by sample and result by result.
 pub(crate) fn kept_parts<H: Xof, G: Xof, LongerH: Xof, LongerG: Xof>()
     requires h { ArePrefixes H.front LongerH.front }
     requires g { ArePrefixes G.front LongerG.front }
@@ -572,7 +597,7 @@ pub(crate) fn kept_parts<H: Xof, G: Xof, LongerH: Xof, LongerG: Xof>()
     longer_front::<H, G, LongerH, LongerG>();
 }
 
-/// A signature stays under fronts that are no `Xof`'s.
+/// A signature stays under outputs that are no `Xof`'s.
 pub(crate) fn kept_by_functions<H: Xof, G: Xof>()
     ensures { (longer other : List ℕ → List ℕ) → ArePrefixes H.front longer → ArePrefixes G.front other
         → (sk : PrivateParts) (rnd signature : List ℕ) (input : Input)
@@ -620,4 +645,75 @@ pub(crate) fn collisions<H: Xof, G: Xof>()
         × (mu ++ w1 ≢ mu ++ other) × (take 32 (H.front (mu ++ w1)) ≡ take 32 (H.front (mu ++ other))) }
 {
     binding();
+}
+
+/// The laws that speak of the numbers of a parameter set, at each.
+pub(crate) fn laws_at_each_set()
+    ensures one_w1 { (p : ParameterSet) (H G : XOF) (pk : PublicParts) (signature w1 other : Bytes) → IsSet p
+        → Fixes p H G pk signature w1 → Fixes p H G pk signature other → w1 ≡ other }
+    ensures hints { (p : ParameterSet) (H G : XOF) (pk : PublicParts) (input : Input) (first second : Bytes) → IsSet p
+        → first ≢ second → (let n = c_tilde_length p + 32 * width (pos (p.gamma1 - 1)) (pos p.gamma1) * p.l in
+        take n first ≡ take n second)
+        → VerifiesInput p H G pk first input → VerifiesInput p H G pk second input
+        → NamesHintCollision p H G pk (representative H pk.tr input) first second }
+    ensures errors { (p : ParameterSet) (H G : XOF) (sk : PrivateParts) (rnd : Bytes) (input : Input) → IsSet p
+        → IfErr (sign_input p H G sk rnd input)
+        (λ fault. (input_fault input ≡ Some fault) ⊎ ((fault ≡ SamplingLimit) ⊎ (fault ≡ TooManyAttempts))) }
+    ensures products { (p : ParameterSet) (front : Bytes) (c s : R) → IsSet p → challenge p.tau front ≡ Some c
+        → norm s.0 ≤ p.eta
+        → norm (polynomial_of (λ n. pos (product (coefficients c.0) (coefficients s.0) n))).0 ≤ p.tau * p.eta }
+    ensures hint { (p : ParameterSet) (z r : ℕ) → IsSet p → r < 8380417 → z < 8380417
+        → nat_abs (centred (pos z)) ≤ p.gamma2
+        → use_hint p.gamma2 (make_hint p.gamma2 z r) r ≡ high_bits p.gamma2 ((r + z) % 8380417) }
+    ensures distance { (p : ParameterSet) (r : ℕ) → IsSet p → r < 8380417
+        → (nat_abs (centred (pos r -ℤ pos (use_hint p.gamma2 false r * (2 * p.gamma2)))) ≤ p.gamma2)
+        × (nat_abs (centred (pos r -ℤ pos (use_hint p.gamma2 true r * (2 * p.gamma2)))) ≤ 2 * p.gamma2 + 1) }
+    ensures high_bits { (p : ParameterSet) (r s : ℕ) → IsSet p → r < 8380417 → s < 8380417
+        → nat_abs (centred (pos s)) ≤ p.beta → nat_abs (low_bits p.gamma2 r) + p.beta < p.gamma2
+        → high_bits p.gamma2 ((r + s) % 8380417) ≡ high_bits p.gamma2 r }
+    ensures packed { (p : ParameterSet) (bytes : Bytes) → IsSet p
+        → length bytes ≡ 32 * width (pos (p.gamma1 - 1)) (pos p.gamma1) → All (λ byte. byte < 256) bytes
+        → polynomial_bytes (pos (p.gamma1 - 1)) (pos p.gamma1) (unpacked (p.gamma1 - 1) p.gamma1 bytes).0 ≡ bytes }
+    ensures unpacked { (p : ParameterSet) (w : R) → IsSet p → length w.0 ≡ 256
+        → PolynomialInRange (pos 0 -ℤ pos (p.gamma1 - 1)) (pos p.gamma1) w.0
+        → unpacked (p.gamma1 - 1) p.gamma1 (polynomial_bytes (pos (p.gamma1 - 1)) (pos p.gamma1) w.0) ≡ w }
+    ensures each_signed { (p : ParameterSet) (H G : XOF) (sk : PrivateParts) (key : PreparedPrivate)
+        (seeds messages : List Bytes) (ctx : Bytes) (answers : List (Result Bytes Fault)) → IsSet p
+        → prepared_private p G sk ≡ Ok key
+        → IsEachSigned (λ rnd message. sign_prepared p H key rnd (plain message ctx)) seeds messages answers
+        → IsEachSigned (λ rnd message. sign_input p H G sk rnd (plain message ctx)) seeds messages answers }
+    ensures each_judged { (p : ParameterSet) (H G : XOF) (pk : PublicParts) (key : PreparedPublic)
+        (messages signatures : List Bytes) (ctx : Bytes) (answers : List Bool) → IsSet p
+        → prepared_public p G pk ≡ Ok key
+        → IsEachJudged (λ message signature. VerifiesPrepared p H key signature (plain message ctx))
+        messages signatures answers
+        → IsEachJudged (λ message signature. VerifiesInput p H G pk signature (plain message ctx))
+        messages signatures answers }
+    ensures challenge_stays { (p : ParameterSet) (H G H' G' : XOF) (input : Bytes) (c : R) → IsSet p
+        → ((x : Bytes) → 4096 ≤ length (H x)) → ArePrefixes H H' → ArePrefixes G G'
+        → challenge p.tau (H input) ≡ Some c → challenge p.tau (H' input) ≡ Some c }
+    ensures signature_stays { (p : ParameterSet) (H G H' G' : XOF) (sk : PrivateParts) (rnd : Bytes) (input : Input)
+        → IsSet p → ((x : Bytes) → 4096 ≤ length (H x)) → ArePrefixes H H' → ArePrefixes G G'
+        → sign_input p H G sk rnd input ≢ Err SamplingLimit
+        → sign_input p H' G' sk rnd input ≡ sign_input p H G sk rnd input }
+    ensures verdict_stays { (p : ParameterSet) (H G H' G' : XOF) (pk : PublicParts) (signature : Bytes) (input : Input)
+        → IsSet p → ((x : Bytes) → 4096 ≤ length (H x)) → ArePrefixes H H' → ArePrefixes G G'
+        → (VerifiesInput p H G pk signature input → VerifiesInput p H' G' pk signature input)
+        × (IsVerdictDecided p H G pk signature ⊎ (input_fault input ≢ None)
+        → VerifiesInput p H' G' pk signature input → VerifiesInput p H G pk signature input) }
+    ensures identifiers { (SHA2_224 ≡ hash_oid 4) × (SHA2_256 ≡ hash_oid 1) × (SHA2_384 ≡ hash_oid 2)
+        × (SHA2_512 ≡ hash_oid 3) × (SHA2_512_224 ≡ hash_oid 5) × (SHA2_512_256 ≡ hash_oid 6)
+        × (SHA3_224 ≡ hash_oid 7) × (SHA3_256 ≡ hash_oid 8) × (SHA3_384 ≡ hash_oid 9) × (SHA3_512 ≡ hash_oid 10)
+        × (SHAKE_128 ≡ hash_oid 11) × (SHAKE_256 ≡ hash_oid 12) }
+{
+    binding();
+    challenge_product_bound();
+    constants();
+    high_bits_stay();
+    longer_functions();
+    packing();
+    prepared_keys();
+    refusals();
+    use_hint_distance();
+    use_hint_of_make_hint();
 }

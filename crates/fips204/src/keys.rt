@@ -3,13 +3,14 @@
 //! two.
 #![tactic(auto)]
 
-ghost use Rattle.std.specs.Prelude.{◌≡◌, ◌↔◌, IsTrue, MatchResult};
+ghost use Rattle.std.specs.Prelude.{◌≡◌, ◌↔◌, IsTrue, Ok, IfOk, MatchResult};
 ghost use Rattle.std.proofs.Common.{ap};
 ghost use Rattle.fips204.specs.Completeness.{TellsPair, AcceptedIfWholePlain};
 ghost use Rattle.fips204.specs.Framing.{framed, represented, representative};
+ghost use Rattle.fips204.specs.Inputs.{input_of};
 ghost use Rattle.fips204.specs.Keys.{IsWhole, TellsWhole, DecodesPrivate};
 ghost use Rattle.fips204.specs.Prepared.{prepared_private, prepared_public};
-ghost use Rattle.fips204.specs.Refusals.{generated, derived, DrawsIf, refused_or, sign_input, VerifiesInput};
+ghost use Rattle.fips204.specs.Refusals.{generated, derived, DrawsIf, refused_or, sign_input, VerifiesInput, Writes};
 ghost use Rattle.fips204.specs.Signing.{sign};
 ghost use Rattle.fips204_base.specs.Encodings.{ArePrivateParts, IsPublicKeyOf, public_key_bytes, private_key_bytes};
 
@@ -31,8 +32,8 @@ use fips204_base::product::Transforms;
 use fips204_base::xof::Xof;
 use std::marker::PhantomData;
 
-// Every head below says the same: `S` is the set that `Matrix<K, L>` names, and the arrays of `S` name the other sizes:
-// `SIG_LEN` bytes of a signature, `PK_LEN` and `SK_LEN` of the keys. That these are the set's
+// Every head below says the same: `S` is the parameter set that `Matrix<K, L>` names, and the arrays of `S` name the
+// other sizes: `SIG_LEN` bytes of a signature, `PK_LEN` and `SK_LEN` of the keys. That these are the set's
 // sizes in the standard's tables is the law of `SignatureSizes` and of `KeySizes`.
 
 impl<
@@ -136,8 +137,9 @@ where
         ap (λ first. refused_or first (sign S.set H.front G.front key (representative H.front key.tr input) rnd)) broken };
 
     fn sign_input(&self, seed: &[u8; 32], input: &Input<'_>) -> Result<[u8; SIG_LEN], Fault> {
-        let mu = ml_dsa::mu_of::<H>(&self.tr, input)?;
-        self.sign_mu_with_seed(&mu, seed)
+        let mut signature = [0u8; SIG_LEN];
+        self.write_signature(seed, input, &mut signature)?;
+        Ok(signature)
     }
 
     fn get_public_key(&self) -> Result<PublicKey<K, L, H, G>, Fault> {
@@ -186,15 +188,22 @@ where
         &self.tr
     }
 
-    /// Signs the hash `mu` of a framed message with the random bytes `seed` (Algorithm 7 from line 7 on).
+    /// Writes what `sign_input` returns: `private.write_signature(&random, &input, &mut signature)?`.
     ///
-    /// Not inlined, so that the matrix is in the stack only while the key signs.
-    #[inline(never)]
-    fn sign_mu_with_seed(&self, mu: &[u8; 64], seed: &[u8; 32]) -> Result<[u8; SIG_LEN], Fault>
-        ensures answer { result ≡ sign_input S.set H.front G.front self.now seed.now (represented mu.now) }
-        ensures accepted { AcceptedIfWholePlain S.set H.front G.front self.now (represented mu.now) result }
+    /// Errors: those of `sign_input`; `signature` is then as it was.
+    pub fn write_signature(
+        &self,
+        seed: &[u8; 32],
+        input: &Input<'_>,
+        signature: &mut [u8; SIG_LEN],
+    ) -> Result<(), Fault>
+        ensures answer { Writes (sign_input S.set H.front G.front self.now seed.now (input_of input.now))
+            signature.old signature.new result }
+        ensures accepted { IfOk result
+            (λ _. AcceptedIfWholePlain S.set H.front G.front self.now (input_of input.now) (Ok signature.new)) }
     {
-        ml_dsa::sign_internal::<K, L, SIG_LEN, H, G>(&S::params(), self, mu, seed)
+        let mu = ml_dsa::mu_of::<H>(&self.tr, input)?;
+        ml_dsa::write_signature(&S::params(), self, &mu, seed, signature)
     }
 
     /// Signs a framed message `m` (Algorithm 7). The 32 random bytes are zeros without `hedged`; with it they
@@ -230,8 +239,8 @@ where
         self.sign_input_with_rng(rng, &Input::Mu(mu), hedged)
     }
 
-    /// Tells whether the key is whole: whether its t0 is the low part of `A s1 + s2` (Algorithm 6, lines 5
-    /// and 6). Signatures of a whole key verify under the public key that `get_public_key` returns, and under the
+    /// Tells whether the key is consistent: whether its t0 is the low part of `A s1 + s2` (Algorithm 6, lines 5
+    /// and 6). Signatures of a consistent key verify under the public key that `get_public_key` returns, and under the
     /// one that is decoded from its bytes only if `tr` is the hash of these bytes: `is_pair` tells both.
     ///
     /// Errors: `Fault::SamplingLimit` if rejection sampling of the matrix reaches its limit.
@@ -282,7 +291,7 @@ where
     S: Set<PublicKey = [u8; PK_LEN], PrivateKey = [u8; SK_LEN]> + KeySizes<K, L, PK_LEN, SK_LEN>,
 {
     /// Tells whether the key and the public key that `get_public_key` returns are a pair: whether the key is
-    /// whole, as `is_whole` tells, and its `tr` is the hash of that public key's bytes. Signatures of such a key
+    /// consistent, as `is_whole` tells, and its `tr` is the hash of that public key's bytes. Signatures of such a key
     /// also verify under the public key that is decoded from these bytes.
     ///
     /// Errors: `Fault::SamplingLimit` if rejection sampling of the matrix reaches its limit.

@@ -8,10 +8,11 @@ ghost use Rattle.fips204_base.specs.Transforms.{ProductOfTransforms, InverseOfTr
 ghost use Rattle.fips204.specs.Completeness.{SignedIsAccepted, BytesTellKeys};
 ghost use Rattle.fips204.specs.Constants.{ConstantsStand, LengthsStand};
 ghost use Rattle.fips204.specs.LongerFronts.{CounterFrontsArePrefixes, LongerFrontsKeep};
-ghost use Rattle.fips204.specs.SchemeLaws.{FramingIsOneToOne, SignatureFixesOne, SignatureBindsInput};
-ghost use Rattle.fips204.specs.SchemeLaws.{SignatureBindsHash, SignatureBindsKey, OtherHintCollides, HintGivesHighBits};
-ghost use Rattle.fips204.specs.SchemeLaws.{HintStaysNear, HighBitsStay, ChallengeProductIsSmall, PackingIsUndone};
-ghost use Rattle.fips204.specs.SchemeLaws.{SignatureHasOneSpelling, HintHasOneSpelling, RefusesOnly};
+ghost use Rattle.fips204.specs.SchemeLaws.{FramingIsOneToOne, SignatureFixesOne, HooksStandForInput};
+ghost use Rattle.fips204.specs.SchemeLaws.{SignatureBindsInput, SignatureBindsHash, SignatureBindsKey};
+ghost use Rattle.fips204.specs.SchemeLaws.{OtherHintCollides, HintGivesHighBits, HintStaysNear, HighBitsStay};
+ghost use Rattle.fips204.specs.SchemeLaws.{ChallengeProductIsSmall, PackingIsUndone, SignatureHasOneSpelling};
+ghost use Rattle.fips204.specs.SchemeLaws.{HintHasOneSpelling, RefusesOnly};
 ghost use Rattle.fips204.specs.Prepared.{PreparedAnswersAsPlain};
 ghost use Rattle.fips204.specs.PreparedBytes.{PreparedThroughBytes};
 ghost use Rattle.fips204_base.specs.Streams.{XOF};
@@ -101,6 +102,13 @@ pub fn framing()
     ensures { FramingIsOneToOne }
 {}
 
+/// What the hooks sign and verify. Where an input breaks no condition, signing its hash mu, made with the private key's
+/// `tr`, or its framed message, is signing that input; and verifying its mu, made with the public key's `tr`, or its
+/// framed message, is verifying that input.
+pub fn hooks()
+    ensures { (p : ParameterSet) (H G : XOF) → HooksStandForInput p H G }
+{}
+
 /// A signature fixes one encoded `w1` under a key, whatever was signed. One signature for two inputs gives a collision
 /// of `H`: if a public key accepts one signature for two inputs that differ, both messages or digests, or both framed
 /// messages, either the framed messages collide in the 64 bytes of mu, or the two values of mu, each followed by this
@@ -121,9 +129,9 @@ pub fn binding()
     ensures hints { OtherHintCollides }
 {}
 
-/// A signature made with a whole private key verifies under the public key derived from it. The key pair of a seed is
-/// such a pair: the private key is whole, the public key is the derived one, and each is the only key that its bytes
-/// decode to. This holds for messages, digests and the hashes of the hooks, and for any random bytes.
+/// A signature made with a consistent private key verifies under the public key derived from it. The key pair of a seed
+/// is such a pair: the private key is consistent, the public key is the derived one, and each is the only key that its
+/// bytes decode to. This holds for messages, digests and the hashes of the hooks, and for any random bytes.
 pub fn signed_is_accepted()
     ensures { SignedIsAccepted }
 {}
@@ -134,14 +142,14 @@ pub fn key_bytes()
 {}
 
 /// A prepared key signs and verifies as the key that it was prepared from does: messages, digests, the hashes of the
-/// hooks, and each entry of `sign_each` and `verify_each`. It is whole if and only if the plain key is. If a public key
-/// is derived from the plain key, preparing it gives the public key that belongs to the prepared one.
+/// hooks, and each entry of `sign_each` and `verify_each`. It is consistent if and only if the plain key is. If a
+/// public key is derived from the plain key, preparing it gives the public key that belongs to the prepared one.
 pub fn prepared_keys()
     ensures { (p : ParameterSet) (H G : List ℕ → List ℕ) → PreparedAnswersAsPlain p H G }
 {}
 
-/// The bytes of a key that was prepared have the length of the set's prepared keys, and they tell it: what is read from
-/// them is that key and nothing else.
+/// The bytes of a key that was prepared have the length of the parameter set's prepared keys, and they tell it: what is
+/// read from them is that key and nothing else.
 pub fn prepared_bytes()
     ensures { (p : ParameterSet) (G : XOF) → IsSet p → PreparedThroughBytes p G }
 {}
@@ -153,14 +161,14 @@ pub fn refusals()
     ensures { (p : ParameterSet) (H G : List ℕ → List ℕ) → RefusesOnly p H G }
 {}
 
-/// Fewer blocks of a stream in counter mode are a prefix of more. So the fronts of `Sha256Ctr` are prefixes of those of
-/// `Sha256CtrLong`, those of `Sha512Ctr` prefixes of those of `Sha512CtrLong`, and likewise for streams of your own.
+/// Fewer blocks of an XOF in counter mode are a prefix of more. So the outputs of `Sha256Ctr` are prefixes of those of
+/// `Sha256CtrLong`, those of `Sha512Ctr` prefixes of those of `Sha512CtrLong`, and likewise for XOFs of your own.
 pub fn counter_fronts()
     ensures { CounterFrontsArePrefixes }
 {}
 
-/// Longer fronts keep results. If each front of `H` is a prefix of the matching front of `LongerH`, and each front of
-/// `G` of that of `LongerG`, then a matrix or an entry of it, a small polynomial or a challenge that the first pair
+/// Longer outputs keep results. If each output of `H` is a prefix of the matching output of `LongerH`, and each output
+/// of `G` of that of `LongerG`, then a matrix or an entry of it, a small polynomial or a challenge that the first pair
 /// samples is also sampled by the second. So these stay: a key pair, a derived public key, a prepared key, a signature,
 /// the error `TooManyAttempts`, a true of a verifying call, and its false where the matrix of the key and the challenge
 /// of the signature exist, where the bytes spell no hint, where `z` is too large, or where a condition on context,
@@ -171,7 +179,7 @@ pub fn longer_front<H: Xof, G: Xof, LongerH: Xof, LongerG: Xof>()
     ensures { LongerFrontsKeep H.front G.front LongerH.front LongerG.front }
 {}
 
-/// The same for any functions that give fronts, the shorter ones of `H` at least 4096 bytes long: `LongerH` and
+/// The same for any functions that give outputs, the shorter ones of `H` at least 4096 bytes long: `LongerH` and
 /// `LongerG` may give as many bytes as one likes.
 pub fn longer_functions()
     ensures { (H G LongerH LongerG : List ℕ → List ℕ) → ((x : List ℕ) → 4096 ≤ length (H x))

@@ -104,7 +104,7 @@ pub trait Set {
         ensures { set_of result ≡ set };
 }
 
-/// The sizes of a set's signatures: a matrix of `K` rows and `L` columns, and `SIG_LEN` bytes.
+/// The sizes of a parameter set's signatures: a matrix of `K` rows and `L` columns, and `SIG_LEN` bytes.
 pub trait SignatureSizes<const K: usize, const L: usize, const SIG_LEN: usize>: Set {
     // They are those of the set's row.
     ghost sizes: { HasSizes Self.set K L SIG_LEN };
@@ -113,8 +113,8 @@ pub trait SignatureSizes<const K: usize, const L: usize, const SIG_LEN: usize>: 
     ghost small: { (K ≤ 8) × (L ≤ 7) × (K * (L * 1024) ≤ 57344) × (SIG_LEN ≤ 4627) };
 }
 
-/// The sizes of a set's keys: a matrix of `K` rows and `L` columns, `PK_LEN` bytes of a public key, and `SK_LEN`
-/// bytes of a private one.
+/// The sizes of a parameter set's keys: a matrix of `K` rows and `L` columns, `PK_LEN` bytes of a public key, and
+/// `SK_LEN` bytes of a private one.
 pub trait KeySizes<const K: usize, const L: usize, const PK_LEN: usize, const SK_LEN: usize>: Set {
     // They are those of the set's row.
     ghost key_sizes: { HasKeySizes Self.set K L PK_LEN SK_LEN };
@@ -123,7 +123,7 @@ pub trait KeySizes<const K: usize, const L: usize, const PK_LEN: usize, const SK
     ghost small_keys: { (PK_LEN ≤ 2592) × (SK_LEN ≤ 4896) };
 }
 
-/// A matrix of `K` rows and `L` columns, which determines the set of a key type.
+/// A matrix of `K` rows and `L` columns, which determines the parameter set of a key type.
 pub struct Matrix<const K: usize, const L: usize>;
 
 /// The set that has this matrix.

@@ -26,7 +26,7 @@ pub trait CryptoRngCore {
     // A call, asked for so many bytes, may give these bytes and leave the generator so.
     ghost gives: { Self → ℕ → List ℕ → Self → Type 0 };
 
-    // A call, asked for so many bytes, may refuse and leave the generator so.
+    // A call, asked for so many bytes, may fail and leave the generator so.
     ghost refuses: { Self → ℕ → Self → Type 0 };
 
     /// Fills `out` with random bytes, or fails.
@@ -86,7 +86,7 @@ pub(crate) fn draw_if<R: CryptoRngCore>(hedged: bool, rng: &mut R) -> Result<[u8
     }
 }
 
-/// Signs an input with 32 random bytes of the generator, which is asked once, and not for an input that is refused.
+/// Signs an input with 32 random bytes of the generator, which is asked once, and not for an input that is rejected.
 /// Returns `refusal` if the generator fails.
 fn sign_drawn<K: Signer, R: CryptoRngCore>(
     key: &K,
@@ -103,7 +103,7 @@ fn sign_drawn<K: Signer, R: CryptoRngCore>(
     key.sign_input(&draw(rng, refusal)?, input)
 }
 
-/// Key generation (FIPS 204, Algorithm 1). The private key of a pair is whole, the public key is the one that is
+/// Key generation (FIPS 204, Algorithm 1). The private key of a pair is consistent, the public key is the one that is
 /// derived from it, and each is what decoding its bytes returns. So what the private key signs, also after it was
 /// stored, is accepted by the public key, also after it was stored.
 pub trait KeyGen {
@@ -113,7 +113,7 @@ pub trait KeyGen {
     /// The private key of a pair.
     type PrivateKey: Signer<PublicKey = Self::PublicKey> + SerDes;
 
-    // Both keys of a seed, or the refusal.
+    // Both keys of a seed, or the error.
     ghost generated: { List ℕ → Result (Self.PublicKey × Self.PrivateKey) Fault };
 
     /// Makes a key pair (Algorithm 1) from 32 bytes of the generator, which is asked once.
@@ -146,13 +146,13 @@ pub trait Signer {
     /// verifies with `K::PublicKey`: it needs no second bound.
     type PublicKey: Verifier<Signature = Self::Signature>;
 
-    // What signing answers for random bytes and an input.
+    // What signing returns for random bytes and an input.
     ghost signs: { Self → List ℕ → definition.Input → Result Self.Signature Fault };
 
-    // The public key that belongs to the private one, or the refusal.
+    // The public key that belongs to the private one, or the error.
     ghost derives: { Self → Result Self.PublicKey Fault };
 
-    // Whether the key is whole.
+    // Whether the key is consistent.
     ghost whole: { Self → Type 0 };
 
     /// Signs an input with the random bytes `seed`; 32 zeros give the deterministic variant.
@@ -268,7 +268,7 @@ pub trait Signer {
     fn get_public_key(&self) -> Result<Self::PublicKey, Fault>
         ensures { result ≡ derives self.now };
 
-    // An input that breaks a condition is refused, with the error of the first that it breaks.
+    // An input that breaks a condition is rejected, with the error of the first that it breaks.
     ghost refused: { (key : Self) (rnd : List ℕ) (input : definition.Input) (fault : Fault)
         → input_fault input ≡ Some fault → signs key rnd input ≡ Err fault };
 }
@@ -281,7 +281,7 @@ pub trait Verifier {
     // Whether the key accepts a signature of an input.
     ghost accepts: { Self → Self.Signature → definition.Input → Type 0 };
 
-    /// Verifies the signature of an input. Returns false if the input is refused.
+    /// Verifies the signature of an input. Returns false if the input is rejected.
     fn accepts_input(&self, input: &Input<'_>, signature: &Self::Signature) -> bool
         ensures { IsTrue result ↔ accepts self.now signature.now (input_of input.now) };
 
@@ -322,10 +322,10 @@ pub trait Scheme {
     /// A signature.
     type Signature: Drop;
 
-    // Both keys of a seed, or the refusal.
+    // Both keys of a seed, or the error.
     ghost generated: { List ℕ → Result (Self.Public × Self.Private) Fault };
 
-    // What signing answers for random bytes and an input.
+    // What signing returns for random bytes and an input.
     ghost signs: { Self.Private → List ℕ → definition.Input → Result Self.Signature Fault };
 
     // Whether the key accepts a signature of an input.
@@ -379,7 +379,7 @@ pub trait SerDes: Sized {
     // The bytes of a value.
     ghost bytes_of: { Self → Self.ByteArray };
 
-    // Whether bytes are answered by a value, or by a refusal.
+    // Whether decoding bytes returns this, a value or an error.
     ghost decodes: { Self.ByteArray → Result Self Fault → Type 0 };
 
     /// Encodes the key (Algorithms 22 and 24).

@@ -111,10 +111,10 @@ pub const ML_DSA_87: Params = Params {
     omega: 75,
 };
 
-/// Key generation of the set with a matrix of `K` rows and `L` columns, over the streams `H` and `G`.
+/// Key generation of the parameter set with a matrix of `K` rows and `L` columns, over the XOFs `H` and `G`.
 pub struct KG<const K: usize, const L: usize, H, G>(PhantomData<(H, G)>);
 
-/// A public key of a set with a matrix of `K` rows and `L` columns, over the streams `H` and `G`.
+/// A public key of a parameter set with a matrix of `K` rows and `L` columns, over the XOFs `H` and `G`.
 ///
 /// Contracts see it as its parts: the matrix's seed `rho`, the hash `tr` of its bytes, and `t1`, `K`
 /// polynomials with coefficients from 0 to 1023.
@@ -158,7 +158,7 @@ impl<const K: usize, const L: usize, H, G> PublicKey<K, L, H, G> {
     }
 }
 
-/// A private key of a set with a matrix of `K` rows and `L` columns, over the streams `H` and `G`.
+/// A private key of a parameter set with a matrix of `K` rows and `L` columns, over the XOFs `H` and `G`.
 ///
 /// Contracts see it as its parts: the matrix's seed `rho`, the seed `key` of the masks, the hash `tr` of
 /// the public key's bytes, the vectors `s1` of `L` and `s2` of `K` polynomials with coefficients in
@@ -182,7 +182,7 @@ impl<const K: usize, const L: usize, H, G> Model for PrivateKey<K, L, H, G> {
 
     ghost view = { λ sk. record { rho = sk.rho; key = sk.cap_k; tr = sk.tr; s1 = sk.s1; s2 = sk.s2; t0 = sk.t0 } };
 
-    // eta is 4 in the set with 6 rows, ML-DSA-65, and 2 in the others.
+    // eta is 4 in ML-DSA-65, the parameter set with 6 rows, and 2 in the others.
     ghost invariant = { λ sk. ArePrivateParts (if nat_eq K 6 then 4 else 2) K L
         record { rho = sk.rho; key = sk.cap_k; tr = sk.tr; s1 = sk.s1; s2 = sk.s2; t0 = sk.t0 } };
 }

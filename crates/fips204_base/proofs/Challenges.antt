@@ -21,7 +21,7 @@ use Rattle.std.proofs.lemmas.List.Elements.{All-append, All-cons, All-map, All-n
 use Rattle.std.proofs.Math.Seq.{take-add}
 use Rattle.std.proofs.lemmas.Grind.{common_steps}
 
--- the picks of 256 - tau to 255 from the bytes after the first eight, a quarter as many as the front has
+-- the picks of 256 - tau to 255 from the bytes after the first eight, a quarter as many as the output has
 unfoldable pub challenge_picks : ℕ → List ℕ → List ℕ
 challenge_picks tau front = take tau (picks (256 - tau) (take (length front / 4) (drop 8 front)))
 

@@ -1,4 +1,4 @@
--- Reading a stream in counter mode block by block.
+-- Reading an XOF in counter mode block by block.
 use Rattle.std.proofs.Common.{◌≡◌, inl, inr, ℕ, zero, suc, ◌+◌, ◌-◌, ◌*◌, ◌<◌, ◌≤◌, List, ◌++◌, length, take, drop, length-append, length-drop, arith, sym, ◌∙◌, ap, append_assoc, append-nil}
 use Rattle.std.proofs.lemmas.Bool.{cases_lt}
 use Rattle.std.proofs.lemmas.List.{drop_all, drop_at, drop-drop, drop-append-le, take-append-le, take_at, length-take-le}

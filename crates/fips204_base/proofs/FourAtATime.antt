@@ -1,4 +1,4 @@
--- What is sampled four at a time: fronts that are read in two parts, and entries that are made ahead.
+-- What is sampled four at a time: outputs that are read in two parts, and entries that are made ahead.
 use Rattle.std.proofs.Common.{◌≡◌, ℕ, ◌+◌, ◌*◌, ◌/◌, ◌%◌, ◌<◌, List, [], ◌∷◌, ◌++◌, map, take, drop, get_or, length, refl, ap, sym, ◌∙◌, Some, None, Ok, Err, ok_or, zero, suc, arith, add-zero, length-drop, length-append, length-take, ◌-◌}
 use Rattle.std.specs.Prelude.{MatchResult}
 use Rattle.std.specs.declared.result.Result.{Result}
@@ -15,7 +15,7 @@ use Rattle.fips204_base.specs.declared.types.T.{T}
 use Rattle.std.specs.Int.{w16, to_le_bytes}
 use Rattle.fips204_base.proofs.Sampled.{all_present-none}
 
--- ---- a front that is read in two parts
+-- ---- an output that is read in two parts
 
 pub parts_joined : {front reader piece rest : List ℕ} (n : ℕ) → reader ≡ front → piece ≡ take n reader → rest ≡ drop n reader → piece ++ rest ≡ front
 parts_joined {front} {reader} {piece} {rest} n same first later = rw (first, later) (take-append-drop n reader ∙ same)

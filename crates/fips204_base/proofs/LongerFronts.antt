@@ -1,4 +1,4 @@
--- What samplers give over a front they give over each longer one that it is a prefix of.
+-- What samplers give over an output they give over each longer one that it is a prefix of.
 use Rattle.std.proofs.Common.{◌≡◌, ℕ, ◌+◌, ◌*◌, ◌/◌, ◌<◌, ◌≤◌, ◌⊎◌, inl, inr, List, [], ◌∷◌, ◌++◌, length, take, drop, get_or, map, refl, ap, sym, ◌∙◌, arith, length-take, get_or-take, Some, None}
 use Rattle.std.specs.Prelude.{option_map, option_and_then, filter_map}
 use Rattle.std.specs.declared.option.Option.{Option}

@@ -48,7 +48,7 @@ present_next f a n j values v at l e there =
     ap all_present (map-range_with_len_more f a n j at) ∙ ap (λ x. all_present (map f (range_with_len a n) ++ x ∷ [])) there
     ∙ present_push (map f (range_with_len a n)) (take n values) v e ∙ ap Some (sym (take_more_set values n v l))
 
--- what a refusal says of a value that may be none
+-- what an error says of a value that may be none
 
 pub some_of_ok : {A : Type 0} (o : Option A) (x : A) → Ok x ≡ ok_or o SamplingLimit → o ≡ Some x
 some_of_ok None x e = absurd cc
@@ -66,7 +66,7 @@ pub present_nil : {A : Type 0} → all_present {A = A} [] ≡ Some []
 unfolding all_present
 present_nil = refl
 
--- What is sampled: vectors and matrices of values that are all there, and what is kept of a front.
+-- What is sampled: vectors and matrices of values that are all there, and what is kept of an output.
 
 -- ---- values that are all there
 

@@ -145,7 +145,7 @@ given_joined f g n (suc m) same =
     ∙ ap (λ l. filter_map f (range_with_len 0 n) ++ l) (sym (given_next g m))
     ∙ ap (λ k. filter_map f (range_with_len 0 n) ++ filter_map g (range_with_len 0 k)) (sym j)
 
--- The coefficients that the half bytes of a front give, byte by byte and piece by piece.
+-- The coefficients that the half bytes of an output give, byte by byte and piece by piece.
 
 pub kept_half_bytes-zero : (eta : ℕ) (front : List ℕ) → kept_half_bytes eta front 0 ≡ []
 unfolding kept_half_bytes
@@ -198,7 +198,7 @@ pub polynomial-few : (eta : ℕ) (front : List ℕ) (values : List ℤ) (count :
 unfolding small_polynomial kept_half_bytes
 polynomial-few eta front values count l k = rw (first_of_few k l) refl
 
--- The coefficients that the triples of a front give, piece by piece.
+-- The coefficients that the triples of an output give, piece by piece.
 
 pub kept_triples-zero : (front : List ℕ) → kept_triples front 0 ≡ []
 unfolding kept_triples

@@ -23,12 +23,12 @@ use Rattle.std.proofs.lemmas.Grind.{common_steps}
 pub length-put_mid : {X : Type 0} (a k : ℕ) (xs ys : List X) → length ys ≡ k → a + k ≤ length xs → length (put_mid a k xs ys) ≡ length xs
 length-put_mid a k xs ys e h = simp (length-append, length-take, length-drop) (omega (arith, e, h))
 
--- the front of the result is the front before and the piece
+-- the start of the result is the start before and the piece
 pub put_piece : {X : Type 0} (a k n : ℕ) (xs ys front : List X) → length ys ≡ k → a + k ≤ length xs → n ≡ a + k → take a xs ≡ front → take n (put_mid a k xs ys) ≡ front ++ ys
 put_piece a k n xs ys front e h same before =
     take-put_mid a k xs ys n (omega (arith, same, e)) (omega (arith, h)) ∙ ap (λ l. l ++ ys) before
 
--- the last piece is written after the front
+-- the last piece is written after the start
 pub put_last : (a k : ℕ) (xs ys front : List ℕ) → length ys ≡ k → a + k ≡ length xs → take a xs ≡ front → put_mid a k xs ys ≡ front ++ ys
 put_last a k xs ys front e h before = grind (arith, ints, common_steps, length-put_mid, take_all, put_piece)
 

@@ -20,7 +20,7 @@ use Rattle.fips204_base.proofs.Residues.{sum_zero}
 use Rattle.fips204_base.proofs.PlainTransforms.{inverse_of_zeros}
 use Rattle.fips204_base.proofs.Vectors.{get_or-padded}
 
--- ---- Numbers of the sets
+-- ---- Numbers of the parameter sets
 
 etas : IsEta (pos 2) × IsEta (pos 4)
 etas = (inl refl, inr refl)

@@ -24,7 +24,8 @@ small_over_10 : small_polynomial 4 (replicate 512 0x10) ≡ Some record { 0 = fl
 unfolding small_polynomial first_256
 small_over_10 = refl
 
--- 2 bytes FF give nothing, and then 128 bytes 00 just enough for the limit of a front of 520 bytes; with one byte more there are too few
+-- 2 bytes FF give nothing, and then 128 bytes 00 just enough for the limit of an output of 520 bytes; with one byte
+-- more there are too few
 small_at_its_limit : small_polynomial 2 (replicate 2 0xFF ++ replicate 518 0x00) ≡ Some record { 0 = replicate 256 (pos 2) }
 unfolding small_polynomial first_256
 small_at_its_limit = refl
@@ -33,15 +34,16 @@ small_past_its_limit : small_polynomial 2 (replicate 3 0xFF ++ replicate 517 0x0
 unfolding small_polynomial first_256
 small_past_its_limit = refl
 
--- the seed of an entry ends in the byte of its column and then that of its row: with a front of the two
+-- the seed of an entry ends in the byte of its column and then that of its row: with an output of the two
 -- bytes and then zeros, coefficient 0 of the entry at row r and column s is s + 256 r
 seeds_of_entries : option_map (λ a. map (λ row. map (λ t. get_or t.0 0 (pos 0)) row) a) (sampled_matrix (λ seed. seed ++ replicate 1022 0) [] 2 2)
     ≡ Some ((pos 0 ∷ pos 1 ∷ []) ∷ (pos 256 ∷ pos 257 ∷ []) ∷ [])
 unfolding sampled_matrix all_present matrix_entry first_256
 seeds_of_entries = refl
 
--- the seed of a small polynomial ends in its number in two bytes, the low byte first: with a front that repeats the first of the two
--- bytes, each polynomial has 4 less its number at even places, 0 to 2 in s1 and 3 and 4 in s2, and else 4
+-- the seed of a small polynomial ends in its number in two bytes, the low byte first: with an output that repeats the
+-- first of the two bytes, each polynomial has 4 less its number at even places, 0 to 2 in s1 and 3 and 4 in s2, and
+-- else 4
 seeds_of_small : option_map {U = List ℤ × List ℤ} (λ v. (flat_map (λ w. drop 254 w.0) v.0, flat_map (λ w. drop 254 w.0) v.1)) (small_vectors 4 (λ seed. replicate 512 (get_or seed 0 0 + 16 * (length seed - 2))) [] 2 3)
     ≡ Some (pos 4 ∷ pos 4 ∷ pos 3 ∷ pos 4 ∷ pos 2 ∷ pos 4 ∷ [], pos 1 ∷ pos 4 ∷ pos 0 ∷ pos 4 ∷ [])
 unfolding small_vectors all_present small_polynomial first_256
@@ -100,7 +102,7 @@ three_triples : option_map (λ t. take 4 t.0) (matrix_entry (range_with_len 0 9 
 unfolding matrix_entry first_256
 three_triples = refl
 
--- a quarter of the front is tried: 258 triples, of which 256 have to be kept
+-- a quarter of the output is tried: 258 triples, of which 256 have to be kept
 entry_at_its_limit : (option_map (λ t. length t.0) (matrix_entry (replicate 6 0xFF ++ replicate 1026 0)) ≡ Some 256) × (option_map (λ t. length t.0) (matrix_entry (replicate 9 0xFF ++ replicate 1023 0)) ≡ None)
 unfolding matrix_entry first_256
 entry_at_its_limit = (refl, refl)

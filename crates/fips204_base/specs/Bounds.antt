@@ -1,4 +1,5 @@
--- Ranges of numbers, polynomials and vectors, lanes, products, and answers of decoders, in clauses of this crate's own functions; no call of `fips204` reaches them.
+-- Ranges of numbers, polynomials and vectors, lanes, products, and results of decoders, for internal functions;
+-- of the public clauses of `fips204` only that of the law `packing` reaches them.
 use Rattle.std.specs.Prelude.{◌≡◌, ℕ, ◌*◌, ◌%◌, ◌<◌, ◌≤◌, ◌≤ℤ◌, ◌<ℤ◌, ◌+ℤ◌, ◌-ℤ◌, ◌*ℤ◌, ◌⊎◌, ℤ, pos, nat_abs, List, [], slice_index_or, Option, MatchOption}
 use Rattle.std.specs.List.{All, Any}
 use Rattle.fips204_base.specs.Packing.{unpacked}
@@ -36,11 +37,11 @@ coefficient_at w n = slice_index_or w n (pos 0)
 abbrev pub coefficient_of : List R → ℕ → ℕ → ℤ
 coefficient_of v r = coefficient_at (slice_index_or v r record { 0 = [] }).0
 
--- an answer that P holds of, or none where P holds of nothing
+-- a result that P holds of, or none where P holds of nothing
 abbrev pub Finds : {A : Type 0} → (A → Type 0) → Option A → Type 0
 Finds {A} P answer = MatchOption answer ((x : A) → P x → ⊥) P
 
--- BitUnpack's answer: none where a is 0 and a field is above b, and else the polynomial that the bytes hold
+-- BitUnpack's result: none where a is 0 and a field is above b, and else the polynomial that the bytes hold
 abbrev pub IsUnpacked : ℤ → ℤ → Bytes → Option R → Type 0
 IsUnpacked a b bytes answer = MatchOption answer
     ((a ≡ pos 0) × Any (λ x. b <ℤ x) (unpacked (nat_abs a) (nat_abs b) bytes).0)

@@ -1,4 +1,5 @@
--- Fields, packed bits and ones of hints, as steps of encoding keep them: cited by no public clause; nobody has to believe it.
+-- Fields, packed bits and ones of hints, as steps of encoding keep them: cited by no public clause of `fips204`;
+-- nobody has to believe it.
 use Rattle.std.specs.Prelude.{◌≡◌, ℕ, ◌^◌, ◌<◌, ℤ, pos, ◌-ℤ◌, nat_abs, List, int_lt, if◌then◌else◌}
 use Rattle.std.specs.List.{All, filter, range_with_len}
 use Rattle.fips204_base.specs.Encodings.{is_one}

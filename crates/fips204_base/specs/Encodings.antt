@@ -54,7 +54,7 @@ pub record ArePublicParts (k : ℕ) (pk : PublicParts) : Type 0 where
 abbrev pub public_key_bytes : Bytes → List R → Bytes
 public_key_bytes rho t1 = rho ++ vector_bytes 0 1023 t1
 
--- pkDecode (Algorithm 23): the parts in range that have these bytes, with their hash over the stream H
+-- pkDecode (Algorithm 23): the parts in range that have these bytes, with their hash over the XOF H
 pub record IsPublicKeyOf (H : XOF) (k : ℕ) (bytes : Bytes) (pk : PublicParts) : Type 0 where
   pub parts : ArePublicParts k pk
   pub encoding : public_key_bytes pk.rho pk.t1 ≡ bytes

@@ -1,10 +1,10 @@
--- The words of each refusal.
+-- The words of each error.
 use Rattle.std.specs.Prelude.{codes}
 use Rattle.fips204_base.specs.Streams.{Bytes}
 use Rattle.fips204_base.specs.declared.fault.Fault.{Fault}
 use Rattle.fips204_base.specs.declared.fault.Fault.TheVariants.{KeyGenRng, SignCtx, SignRng, HashCtx, OidEmpty, OidNotDer, DigestTooLong, DigestLength, HashRng, InternalRng, TooManyAttempts, KeyRange, SamplingLimit}
 
--- the words of a refusal, as bytes
+-- the words of an error, as bytes
 abbrev pub words : Fault → Bytes
 words KeyGenRng = codes "KeyGen: Random number generator failed"
 words SignCtx = codes "ML-DSA.Sign: ctx too long"

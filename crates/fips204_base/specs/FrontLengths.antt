@@ -1,4 +1,4 @@
--- Lemmas on the fronts of streams in counter mode: cited by no public clause; nobody has to believe it.
+-- Lemmas on the outputs of XOFs in counter mode: cited by no public clause of `fips204`; nobody has to believe it.
 use Rattle.std.proofs.Common.{◌≡◌, ◌≤◌, ◌+◌, ◌-◌, ℕ, zero, suc, ◌*◌, List, ◌++◌, length, length-append, length-take, ap, subst, ◌∙◌, arith}
 use Rattle.std.proofs.lemmas.List.{take_all, take-append-le}
 use Rattle.std.specs.Int.{w32, to_le_bytes}

@@ -1,4 +1,4 @@
--- What is made coefficient by coefficient: cited by no public clause; nobody has to believe it.
+-- What is made coefficient by coefficient: cited by no public clause of `fips204`; nobody has to believe it.
 use Rattle.std.specs.Prelude.{◌≡◌, ℕ, ◌<◌, ℤ, List}
 use Rattle.fips204_base.specs.Bounds.{coefficient_of}
 use Rattle.fips204_base.specs.Vectors.{vector_of}

@@ -1,4 +1,4 @@
--- Butterflies, blocks of them, and lanes by place: cited by no public clause; nobody has to believe it.
+-- Butterflies, blocks of them, and lanes by place: cited by no public clause of `fips204`; nobody has to believe it.
 use Rattle.std.specs.Prelude.{◌≡◌, ℕ, ◌+◌, ◌*◌, ◌<◌, ◌≤◌, ℤ, nat_abs, List, length, FitsSigned}
 use Rattle.std.specs.Int.{w32}
 use Rattle.fips204_base.specs.Lanes.{lane, lane_at}

@@ -1,4 +1,5 @@
--- What is given by its transforms, as the plain polynomials that contracts see: cited by no public clause; nobody has to believe it.
+-- What is given by its transforms, as the plain polynomials that contracts see: cited by no public clause of `fips204`;
+-- nobody has to believe it.
 use Rattle.std.specs.Prelude.{◌≡◌, ℕ, ℤ, List, [], pos, ◌*◌, ◌%◌, ◌<◌, slice_index_or}
 use Rattle.fips204_base.specs.Residues.{coefficients, residue, sum_below}
 use Rattle.fips204_base.specs.Transforms.{inverse_transform, product}

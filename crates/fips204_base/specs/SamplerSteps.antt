@@ -1,4 +1,5 @@
--- What a sampler's loops keep and its steps write, and parts of its definitions: cited by no public clause; nobody has to believe it.
+-- What a sampler's loops keep and its steps write, and parts of definitions: cited by no public clause of `fips204`;
+-- nobody has to believe it.
 use Rattle.std.specs.Prelude.{◌≡◌, ◌≢◌, ℕ, ◌+◌, ◌*◌, ◌-◌, ◌/◌, ◌%◌, ◌<◌, ◌≤◌, ℤ, pos, neg_ℤ, List, [], ◌∷◌, slice_index, slice_index_or, ◌++◌, take, map, filter_map, flat_map, Option, Some, None, Result, MatchResult, nat_eq, if◌then◌else◌}
 use Rattle.std.specs.Int.{w16, to_le_bytes}
 use Rattle.std.specs.List.{range_with_len}
@@ -13,25 +14,25 @@ use Rattle.fips204_base.specs.declared.types.T.{T}
 abbrev pub AreKept : List ℤ → ℕ → List ℤ → List ℤ → ℕ → Type 0
 AreKept old kept given new count = take count new ≡ take 256 (take kept old ++ given)
 
--- a step that writes what is sampled: it refuses where there is none
+-- a step that writes what is sampled: an error where there is none
 abbrev pub WritesSampled : {A : Type 0} → Option A → Result (Unit {0}) Fault → A → Type 0
 WritesSampled sampled result new = MatchResult result (λ _. sampled ≡ Some new) (λ fault. (sampled ≡ None) × (fault ≡ SamplingLimit))
 
--- a step that writes the first n of the values f: it refuses where one of them is none
+-- a step that writes the first n of the values f: an error where one of them is none
 abbrev pub WritesEach : {A : Type 0} → (ℕ → Option A) → ℕ → Result (Unit {0}) Fault → List A → Type 0
 WritesEach {A} f n result new = MatchResult result (λ _. (j : ℕ) (d : A) → j < n → f j ≡ Some (slice_index_or new j d))
     (λ fault. ((j : ℕ) × (j < n) × (f j ≡ None)) × (fault ≡ SamplingLimit))
 
--- a step that samples the matrix of rho: it refuses where there is none, and else P holds of the matrix
+-- a step that samples the matrix of rho: an error where there is none, and else P holds of the matrix
 abbrev pub OnSampled : (List ℕ → List ℕ) → List ℕ → ℕ → ℕ → Result (Unit {0}) Fault → (List (List T) → Type 0) → Type 0
 OnSampled G rho k l result P = MatchResult result (λ _. (a : List (List T)) × (sampled_matrix G rho k l ≡ Some a) × P a)
     (λ fault. (sampled_matrix G rho k l ≡ None) × (fault ≡ SamplingLimit))
 
--- the coefficient that triple p of a front gives, if any
+-- the coefficient that triple p of an output gives, if any
 unfoldable pub triple : List ℕ → ℕ → Option ℤ
 triple front p = coefficient_from_three_bytes (slice_index front (3 * p)) (slice_index front (3 * p + 1)) (slice_index front (3 * p + 2))
 
--- the number of triple p of a front, without its top bit: the coefficient that it gives, if it is below q
+-- the number of triple p of an output, without its top bit: the coefficient that it gives, if it is below q
 abbrev pub number : List ℕ → ℕ → ℕ
 number front p = slice_index front (3 * p) + 256 * slice_index front (3 * p + 1) + 65536 * (slice_index front (3 * p + 2) % 128)
 
@@ -76,6 +77,6 @@ sign_of bit = if nat_eq bit 1 then neg_ℤ (pos 1) else pos 1
 abbrev pub mask_width : ℕ → ℕ
 mask_width gamma1 = width (pos (gamma1 - 1)) (pos gamma1)
 
--- a polynomial of the mask: the first 32 c bytes of a front, c bits a coefficient
+-- a polynomial of the mask: the first 32 c bytes of an output, c bits a coefficient
 abbrev pub mask_polynomial : ℕ → List ℕ → R
 mask_polynomial gamma1 front = unpacked (gamma1 - 1) gamma1 (take (32 * mask_width gamma1) front)

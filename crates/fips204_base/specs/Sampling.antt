@@ -32,7 +32,7 @@ all_present (x ∷ xs) = option_and_then (λ value. option_map (λ values. value
 
 -- ---- The matrix (Algorithms 30 and 32)
 
--- RejNTTPoly (Algorithm 30): the first 256 coefficients of as many triples as a quarter of the front has bytes, or none
+-- RejNTTPoly (Algorithm 30): the first 256 coefficients of as many triples as a quarter of an output has bytes, or none
 unfoldable pub matrix_entry : Bytes → Option T
 matrix_entry front =
     let triple = λ (p : ℕ). coefficient_from_three_bytes (slice_index front (3 * p)) (slice_index front (3 * p + 1)) (slice_index front (3 * p + 2)) in
@@ -45,7 +45,7 @@ sampled_matrix G rho k l =
 
 -- ---- Small polynomials (Algorithms 31 and 33)
 
--- RejBoundedPoly (Algorithm 31): the first 256 coefficients of half bytes, a byte's low one first, of the front's first quarter; or none
+-- RejBoundedPoly (Algorithm 31): the first 256 coefficients of half bytes, a byte's low one first, of the output's first quarter; or none
 unfoldable pub small_polynomial : ℕ → Bytes → Option R
 small_polynomial eta front =
     let half_bytes = flat_map (λ byte. byte % 16 ∷ byte / 16 ∷ []) (take (length front / 4) front) in
@@ -81,7 +81,7 @@ signed_sum (place ∷ later) [] n = pos 0
 signed_sum (place ∷ later) (bit ∷ sign_bits) n = (if nat_eq place n then (if nat_eq bit 1 then neg_ℤ (pos 1) else pos 1) else pos 0) +ℤ signed_sum later sign_bits n
 
 -- SampleInBall (Algorithm 29): the sum over i from 256 - tau to 255 of sign_i X^place(i), or none where a pick is missing; picks are from
--- the bytes after the first eight, a quarter as many as the front has, and sign_i is that of bit i + tau - 256 of the first eight
+-- the bytes after the first eight, a quarter as many as the output has, and sign_i is that of bit i + tau - 256 of the first eight
 unfoldable pub challenge : ℕ → Bytes → Option R
 challenge tau front =
     let picked = take tau (picks (256 - tau) (take (length front / 4) (drop 8 front))) in

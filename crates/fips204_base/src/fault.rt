@@ -35,7 +35,7 @@ pub enum Fault {
     /// The bytes encode no private key: a coefficient of s1 or s2 is out of range, so that its field is above
     /// `2 eta`.
     KeyRange,
-    /// Rejection sampling reached its limit: a quarter of the front of a stream had too few usable values.
+    /// Rejection sampling reached its limit: a quarter of the output of an XOF had too few usable values.
     SamplingLimit,
 }
 

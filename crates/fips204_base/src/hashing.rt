@@ -1,4 +1,4 @@
-//! Samplers: the matrix, the secret vectors, the challenge and the mask from streams (FIPS 204, section 7.3).
+//! Samplers: the matrix, the secret vectors, the challenge and the mask from XOFs (FIPS 204, section 7.3).
 #![tactic(auto)]
 
 ghost use Rattle.std.specs.Prelude.{◌≡◌, ◌≤◌, ◌++◌, option_to_list};
@@ -18,7 +18,7 @@ pub(crate) use matrix::write_next_row;
 pub use matrix::{expand_a, rej_ntt_poly, write_expanded_a};
 pub use small::{expand_s, rej_bounded_poly, write_expanded_s};
 
-/// Opens the reader of the stream over `rho` and `number` in two bytes.
+/// Opens the reader of the XOF over `rho` and `number` in two bytes.
 fn open_numbered<H: Xof>(rho: &[u8; 64], number: u16) -> H::Reader
     ensures { H.Reader.rest result ≡ H.front (rho.now ++ to_le_bytes w16 number) }
 {

@@ -1,4 +1,4 @@
-//! Byte streams, in place of SHAKE256 and SHAKE128.
+//! XOFs, in place of SHAKE256 and SHAKE128.
 #![tactic(auto)]
 
 ghost use Rattle.std.specs.Prelude.{◌≡◌, ◌≤◌, ◌/◌, ◌⊎◌, ℕ, List, length, take, drop, replicate};
@@ -17,7 +17,7 @@ pub use sha2_ctr::{
     Sha256Ctr, Sha256CtrLong, Sha256CtrReader, Sha512Ctr, Sha512CtrLong, Sha512CtrReader,
 };
 
-/// A reader of a stream. Contracts see it as `rest`, the list of the bytes not yet read.
+/// A reader of an XOF's output. Contracts see it as `rest`, the list of the bytes not yet read.
 pub trait XofReader: Drop {
     ghost rest: { Self → List ℕ };
 
@@ -34,7 +34,7 @@ pub trait XofReader: Drop {
     /// Fills the outputs with the next bytes of four readers, as `read` of each does. The outputs are of one length, and each
     /// reader has as many bytes left; or the fourth is empty, where only three are wanted.
     ///
-    /// A stream may have a body of its own, which makes the bytes of the four side by side.
+    /// A reader may have a body of its own, which makes the bytes of the four side by side.
     fn read_four(
         a: &mut Self,
         b: &mut Self,
@@ -67,19 +67,19 @@ pub trait XofReader: Drop {
     }
 }
 
-/// A stream, in place of SHAKE256 or SHAKE128 (FIPS 204, section 3.7): the input determines a front of
+/// An XOF, in place of SHAKE256 or SHAKE128 (FIPS 204, section 3.7): the input determines an output of
 /// `FRONT` bytes. Rejection sampling reaches its limit at a quarter of them (`sampling_limit`).
 pub trait Xof {
     type Reader: XofReader;
 
-    /// The number of bytes of a front, from 4096 to 1048576.
+    /// The number of bytes of an output, from 4096 to 1048576.
     const FRONT: usize;
 
     ghost FRONT: { ℕ };
 
     ghost front: { List ℕ → List ℕ };
 
-    /// Opens a reader of the front of the concatenated parts; how the input is cut makes no difference.
+    /// Opens a reader of the output over the concatenated parts; how the input is cut makes no difference.
     fn open(parts: &[&[u8]]) -> Self::Reader
         ensures { Self.Reader.rest result ≡ front (flat_map (λ part. part.now) parts.now) };
 
@@ -90,7 +90,7 @@ pub trait Xof {
     ghost front_most: { FRONT ≤ 1048576 };
 }
 
-/// The first `N` bytes of the stream over the concatenated parts, as `H(..)` of the standard; `N` is at most
+/// The first `N` bytes of the XOF's output over the concatenated parts, as `H(..)` of the standard; `N` is at most
 /// 4096.
 pub fn hash<H: Xof, const N: usize>(parts: &[&[u8]]) -> [u8; N]
     requires { N ≤ 4096 }
@@ -102,7 +102,7 @@ pub fn hash<H: Xof, const N: usize>(parts: &[&[u8]]) -> [u8; N]
     out
 }
 
-/// The number of draws at which rejection sampling from a stream reaches its limit: triples for a matrix
+/// The number of draws at which rejection sampling from an XOF reaches its limit: triples for a matrix
 /// entry, bytes for a small polynomial, bytes for a challenge, not counting the eight of its signs. A quarter
 /// of `FRONT`, rounded down: from 1024 to 262144.
 pub fn sampling_limit<X: Xof>() -> usize
@@ -113,7 +113,7 @@ pub fn sampling_limit<X: Xof>() -> usize
     X::FRONT / 4
 }
 
-/// The stream whose front is 4096 times the byte `B`, for every input.
+/// The XOF whose output is 4096 times the byte `B`, for every input.
 pub struct Fill<const B: u8>;
 
 /// A reader of `Fill`.

@@ -13,7 +13,7 @@ use Rattle.fips204_bytes.specs.declared.refusal.Refusal.{Refusal}
 use Rattle.fips204_bytes.specs.declared.refusal.Refusal.TheVariants.{Length}
 use Rattle.fips204_bytes.proofs.Pairs.{chosen, not_done}
 
--- an answer of yes
+-- a result of true
 pub yes : (b : Bool) → Path (Result Bool Refusal) (Ok true) (Ok b) → IsTrue b
 yes true is = refl
 yes false is = absurd cc

@@ -6,3 +6,4 @@ mod PreparedKeys
 mod Errors
 mod KeyRange
 mod Spellings
+mod Written

@@ -1,13 +1,12 @@
--- Signing and verifying mu of an input.
-use Rattle.std.proofs.Common.{◌≡◌, ℕ, Bool, true, false, List, ◌++◌, length, nat_eq, take, Option, None, Some, Result, Ok, Err, refl, sym, ap, subst, ◌∙◌, arith, length-append, append_assoc}
+-- Signing and verifying mu and M' of an input.
+use Rattle.std.proofs.Common.{◌≡◌, ℕ, Bool, true, false, List, ◌++◌, length, nat_eq, take, None, Result, Ok, Err, sym, ap, subst, ◌∙◌, arith, length-append, append_assoc}
 use Rattle.std.specs.Prelude.{◌↔◌, MatchBool, ⊤}
 use Rattle.std.proofs.lemmas.List.{take_at, drop_at}
 use Rattle.fips204_base.specs.Encodings.{PublicParts, PrivateParts, IsPrivateKeyOf, IsPublicKeyOf, vector_bytes}
-use Rattle.fips204.specs.Acceptance.{Verifies}
-use Rattle.fips204.specs.Framing.{Input, plain, hashed, framed, represented, representative}
+use Rattle.fips204.specs.Framing.{Input, framed, represented, representative}
 use Rattle.fips204.specs.ParameterSets.{ParameterSet, public_key_length, private_key_length, signature_length}
 use Rattle.fips204.specs.Refusals.{input_fault, sign_input, VerifiesInput}
-use Rattle.fips204.specs.SchemeLaws.{framing}
+use Rattle.fips204.specs.SchemeLaws.{HooksStandForInput}
 use Rattle.fips204_bytes.specs.Bytes.{Leaves, WithPrivate, Writes, Signs, TellsVerdict, Judges}
 use Rattle.fips204_bytes.specs.Mu.{tr_of_private, tr_of_public, MuStandsForInput, FramedStandsForInput}
 use Rattle.fips204_bytes.specs.declared.refusal.Array.TheVariants.{PublicKey, PrivateKey, Signature}
@@ -28,7 +27,7 @@ tr_within p key sk is =
     ∙ ap (λ (z : List ℕ). take 64 z) (drop_at front (sk.tr ++ rest) 64 size)
     ∙ take_at sk.tr rest 64 is.parts.tr
 
--- ---- a part of an answer, exchanged
+-- ---- a part of a result, exchanged
 
 pub fitting : {P P' : Type 0} (Q : Type 0) (b : Bool) → (P → P') → MatchBool b P Q → MatchBool b P' Q
 fitting Q true f p = f p
@@ -39,22 +38,17 @@ with_used : (p : ParameterSet) (key : List ℕ) (uses uses' : PrivateParts → T
 with_used p key uses uses' refuses f (Ok sk, decodes, held) = (Ok sk, decodes, f sk decodes held)
 with_used p key uses uses' refuses f (Err fault, decodes, refused) = (Err fault, decodes, refused)
 
-some_same : {x y : List ℕ} → Path (Option (List ℕ)) (Some x) (Some y) → x ≡ y
-some_same is = cc
-
-module _ (p : ParameterSet) (H G : List ℕ → List ℕ) where
+module _ (p : ParameterSet) (H G : List ℕ → List ℕ) (law : HooksStandForInput p H G) where
   same_signature : (key random : List ℕ) (input : Input) (sk : PrivateParts) → input_fault input ≡ None → IsPrivateKeyOf p.eta p.k p.l key sk
       → sign_input p H G sk random (represented (representative H (tr_of_private key) input)) ≡ sign_input p H G sk random input
   same_signature key random input sk none is =
-      rw (none, tr_within p key sk is) refl
+      ap (λ (tr : List ℕ). sign_input p H G sk random (represented (representative H tr input))) (tr_within p key sk is) ∙ law.signed_mu sk random input none
 
   same_verdict : (key : List ℕ) (input : Input) (signature : List ℕ) (pk : PublicParts) → input_fault input ≡ None → IsPublicKeyOf H p.k key pk
       → VerifiesInput p H G pk signature (represented (representative H (tr_of_public H key) input)) ↔ VerifiesInput p H G pk signature input
   same_verdict key input signature pk none is =
-      let mu : representative H pk.tr input ≡ representative H (tr_of_public H key) input = ap (λ tr. representative H tr input) is.tr in (
-        λ (_, verifies). (none, subst (λ m. Verifies p H G pk m signature) (sym mu) verifies),
-        λ (_, verifies). (refl, subst (λ m. Verifies p H G pk m signature) mu verifies),
-      )
+      subst (λ (tr : List ℕ). VerifiesInput p H G pk signature (represented (representative H tr input)) ↔ VerifiesInput p H G pk signature input)
+      is.tr (law.judged_mu pk signature input none)
 
   signed : (key random : List ℕ) (first second : Input) (old new : List ℕ) (answer : Result ⊤ Refusal)
       → ((sk : PrivateParts) → IsPrivateKeyOf p.eta p.k p.l key sk → sign_input p H G sk random first ≡ sign_input p H G sk random second)
@@ -84,23 +78,12 @@ module _ (p : ParameterSet) (H G : List ℕ → List ℕ) where
         (judged key mu input signature answer same, judged key input mu signature answer (λ pk is. ((same pk is).1, (same pk is).0)));
   }
 
-  -- mu of M' is mu of the input
-  same_mu : (tr : List ℕ) (input : Input) (m : List ℕ) → framing input ≡ Some m → representative H tr (framed m) ≡ representative H tr input
-  same_mu tr (plain message context) m is = ap (λ (x : List ℕ). take 64 (H (tr ++ x))) (sym (some_same is))
-  same_mu tr (hashed digest context oid) m is = ap (λ (x : List ℕ). take 64 (H (tr ++ x))) (sym (some_same is))
-  same_mu tr (framed n) m is = ap (λ (x : List ℕ). take 64 (H (tr ++ x))) (sym (some_same is))
-  same_mu tr (represented mu) m is = absurd cc
-
   pub framed_stands_for_input : FramedStandsForInput p H G
   framed_stands_for_input = record {
     signed = λ key random input m old new answer none is.
-        let same : (sk : PrivateParts) → IsPrivateKeyOf p.eta p.k p.l key sk → sign_input p H G sk random (framed m) ≡ sign_input p H G sk random input =
-        λ sk _. rw (none, same_mu sk.tr input m is) refl in
+        let same = λ (sk : PrivateParts) (own : IsPrivateKeyOf p.eta p.k p.l key sk). law.signed_framed sk random input m none is in
         (signed key random (framed m) input old new answer same, signed key random input (framed m) old new answer (λ sk own. sym (same sk own)));
     judged = λ key input m signature answer none is.
-        let there : (pk : PublicParts) → VerifiesInput p H G pk signature (framed m) → VerifiesInput p H G pk signature input =
-        λ pk (_, verifies). (none, subst (λ mu. Verifies p H G pk mu signature) (same_mu pk.tr input m is) verifies) in
-        let back : (pk : PublicParts) → VerifiesInput p H G pk signature input → VerifiesInput p H G pk signature (framed m) =
-        λ pk (_, verifies). (refl, subst (λ mu. Verifies p H G pk mu signature) (sym (same_mu pk.tr input m is)) verifies) in
-        (judged key (framed m) input signature answer (λ pk _. (there pk, back pk)), judged key input (framed m) signature answer (λ pk _. (back pk, there pk)));
+        let same = λ (pk : PublicParts) (own : IsPublicKeyOf H p.k key pk). law.judged_framed pk signature input m none is in
+        (judged key (framed m) input signature answer same, judged key input (framed m) signature answer (λ pk own. ((same pk own).1, (same pk own).0)));
   }

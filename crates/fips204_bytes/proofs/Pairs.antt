@@ -34,7 +34,7 @@ pub taken : {P : Type 0} (Q : Type 0) (b : Bool) → b ≡ true → MatchBool b 
 taken Q true is p = p
 taken Q false is q = absurd cc
 
--- an answer whose errors are refuted
+-- a result whose errors are refuted
 pub answered : {A E : Type 0} (r : Result A E) (P : A → Type 0) (Q : E → Type 0) → MatchResult r P Q → ((e : E) → ¬ (Q e)) → (a : A) × (r ≡ Ok a) × P a
 answered (Ok a) P Q p never = (a, refl, p)
 answered (Err e) P Q q never = absurd (never e q)
@@ -84,7 +84,7 @@ written : (made : Result PublicParts Fault) (pk : PublicParts) (old new : List �
     → Writes bytes_of_public made old new answer → (new ≡ bytes_of_public pk) × (answer ≡ Ok tt)
 written made pk old new answer is = subst (λ it. Writes bytes_of_public it old new answer) is
 
--- a question whose answer is yes
+-- a question whose result is true
 is_yes : (told : Result Bool Fault) (answer : Result Bool Refusal) → Tells told answer → told ≡ Ok true → answer ≡ Ok true
 is_yes told answer tells is = subst (λ it. Tells it answer) is tells
 

@@ -30,7 +30,7 @@ with_only : {A : Type 0} (has uses : A → Type 0) (refuses : Refusal → Type 0
 with_only has uses refuses key own only (Some other, is, used) = subst uses (only other is) used
 with_only has uses refuses key own only (None, none, refused) = absurd (none key own)
 
--- no answer of success is an error
+-- no result of success is an error
 unrefused : (old new : List ℕ) (why : Refusal) → ¬ (Leaves old new (Ok tt) why)
 unrefused old new why (_, is) = not_done tt why is
 
@@ -73,7 +73,7 @@ prepared_stands_for_plain p H G through as_plain = record {
       given (Leaves before after answer (Length PrivateKey)) (nat_eq (length key) (private_key_length p)) sized (fitting (Leaves before after answer (Length Signature)) (nat_eq (length before) (signature_length p)) makes signed);
 }
   where
-    -- what is done with the private key, where it isn't refused
+    -- what is done with the private key, where it isn't rejected
     used : (p : ParameterSet) (key : List ℕ) (uses : PrivateParts → Type 0) (refuses : Refusal → Type 0) → WithPrivate p key uses refuses → ((why : Refusal) → ¬ (refuses why))
         → (sk : PrivateParts) × IsPrivateKeyOf p.eta p.k p.l key sk × uses sk
     used p key uses refuses (Ok sk, is, done) never = (sk, is, done)

@@ -8,7 +8,7 @@ use Rattle.fips204_bytes.specs.Spellings.{HasOneSpelling}
 use Rattle.fips204_bytes.proofs.Lengths.{length-public_key, length-private_key, length-signature}
 
 -- gamma1, as packing takes it
-pub gamma1_bounds : (p : ParameterSet) → IsSet p → (1 ≤ p.gamma1) × (p.gamma1 ≤ 1048575)
+gamma1_bounds : (p : ParameterSet) → IsSet p → (1 ≤ p.gamma1) × (p.gamma1 ≤ 1048575)
 gamma1_bounds p (inl is) = subst (λ (q : ParameterSet). (1 ≤ q.gamma1) × (q.gamma1 ≤ 1048575)) (sym is) (omega arith, omega arith)
 gamma1_bounds p (inr (inl is)) = subst (λ (q : ParameterSet). (1 ≤ q.gamma1) × (q.gamma1 ≤ 1048575)) (sym is) (omega arith, omega arith)
 gamma1_bounds p (inr (inr is)) = subst (λ (q : ParameterSet). (1 ≤ q.gamma1) × (q.gamma1 ≤ 1048575)) (sym is) (omega arith, omega arith)

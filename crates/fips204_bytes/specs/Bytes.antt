@@ -13,7 +13,7 @@ use Rattle.fips204_bytes.specs.declared.refusal.Array.TheVariants.{PublicKey, Pr
 use Rattle.fips204_bytes.specs.declared.refusal.Refusal.{Refusal}
 use Rattle.fips204_bytes.specs.declared.refusal.Refusal.TheVariants.{Length, Library}
 
--- an array has the wanted length, or is refused
+-- an array has the wanted length, or is rejected
 abbrev pub IfSized : ℕ → Array → Bytes → Type 0 → (Refusal → Type 0) → Type 0
 IfSized wanted which bytes fits refuses = MatchBool (nat_eq (length bytes) wanted) fits (refuses (Length which))
 
@@ -33,7 +33,7 @@ Tells told answer = MatchResult told (λ yes. answer ≡ Ok yes) (λ fault. answ
 abbrev pub bytes_of_public : PublicParts → Bytes
 bytes_of_public pk = public_key_bytes pk.rho pk.t1
 
--- the private key that has these bytes is used, or refused where no key has them
+-- the private key that has these bytes is used, or an error where no key has them
 abbrev pub WithPrivate : ParameterSet → Bytes → (PrivateParts → Type 0) → (Refusal → Type 0) → Type 0
 WithPrivate p key uses refuses = (decoded : Result PrivateParts Fault) × DecodesPrivate p.eta p.k p.l key decoded
     × MatchResult decoded uses (λ fault. refuses (Library fault))

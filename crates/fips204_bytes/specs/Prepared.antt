@@ -11,7 +11,7 @@ use Rattle.fips204_bytes.specs.declared.refusal.Array.TheVariants.{PublicKey, Pr
 use Rattle.fips204_bytes.specs.declared.refusal.Refusal.{Refusal}
 use Rattle.fips204_bytes.specs.declared.refusal.Refusal.TheVariants.{NotPrepared}
 
--- the prepared key that has these bytes is used, or refused where none has them
+-- the prepared key that has these bytes is used, or an error where none has them
 abbrev pub WithPrepared : {A : Type 0} → (A → Type 0) → (A → Type 0) → (Refusal → Type 0) → Type 0
 WithPrepared {A} has uses refuses = (read : Option A) × Decodes has read × MatchOption read (refuses NotPrepared) uses
 

@@ -12,7 +12,7 @@ use fips204::xof::Xof;
 use fips204::{Input, SetName};
 use std::marker::PhantomData;
 
-/// A call of `Calls` at the set of a name.
+/// A call of `Calls` at the parameter set of a name.
 macro_rules! of_set {
     ($set:ident, $call:ident($($argument:expr),*)) => {
         match $set {
@@ -24,7 +24,7 @@ macro_rules! of_set {
 }
 
 /// ML-DSA (FIPS 204) over bytes, over the XOFs `H` and `G`, for those who know the parameter set only when the program runs:
-/// each call does what the call of `Calls` does at the set of this name.
+/// each call does what the call of `Calls` does at the parameter set of this name.
 pub struct ByName<H, G>(PhantomData<(H, G)>);
 
 impl<H: Xof, G: Xof> ByName<H, G> {

@@ -1,32 +1,20 @@
-//! Callers for mutations: what each part of the laws and of the definitions says, so that one which says less is refused
+//! Callers for mutations: what each part of the laws and of the definitions says, so that one which says less fails
 //! here. No code calls them.
 #![tactic(auto)]
 
-ghost use Rattle.std.specs.Prelude.{◌≡◌, ◌≢◌, ◌<◌, ◌≤◌, ◌+◌, ◌-◌, ◌*◌, ◌%◌, ◌-ℤ◌, ◌<ℤ◌, ℕ, pos, nat_abs, ◌↔◌, ◌⊎◌, ◌++◌, ⊤};
-ghost use Rattle.std.specs.Prelude.{Bool, IfErr, List, None, Some, Ok, Err, Result, true, false, drop, length, take};
+ghost use Rattle.std.specs.Prelude.{◌≡◌, ◌≢◌, ◌<◌, ◌≤◌, ◌+◌, ◌*◌, ◌-ℤ◌, ◌<ℤ◌, ℕ, pos, ◌↔◌, ◌⊎◌, ◌++◌, ⊤};
+ghost use Rattle.std.specs.Prelude.{Bool, List, None, Some, Ok, Err, Result, true, drop, length, take};
 ghost use Rattle.std.specs.List.{All, Any};
-ghost use Rattle.fips204_base.specs.Bounds.{PolynomialInRange};
 ghost use Rattle.fips204_base.specs.Encodings.{PublicParts, PrivateParts, IsPublicKeyOf, IsPrivateKeyOf, IsSignature};
 ghost use Rattle.fips204_base.specs.Encodings.{public_key_bytes, private_key_bytes, signature_bytes};
-ghost use Rattle.fips204_base.specs.Packing.{polynomial_bytes, unpacked, width};
-ghost use Rattle.fips204_base.specs.Residues.{centred, coefficients, norm};
-ghost use Rattle.fips204_base.specs.Rounding.{high_bits, low_bits, make_hint, use_hint};
-ghost use Rattle.fips204_base.specs.Sampling.{challenge};
-ghost use Rattle.fips204_base.specs.Transforms.{product};
-ghost use Rattle.fips204_base.specs.Vectors.{polynomial_of};
-ghost use Rattle.fips204_base.specs.declared.fault.Fault.{Fault};
-ghost use Rattle.fips204_base.specs.declared.fault.Fault.TheVariants.{KeyRange, SamplingLimit, TooManyAttempts};
+ghost use Rattle.fips204_base.specs.Packing.{unpacked, width};
+ghost use Rattle.fips204_base.specs.declared.fault.Fault.TheVariants.{KeyRange};
 ghost use Rattle.fips204_base.specs.declared.types.R.{R};
-ghost use Rattle.fips204_base.specs.Streams.{ArePrefixes, Bytes, XOF};
-ghost use Rattle.fips204.specs.Framing.{Input, framed, hash_oid, plain, represented, representative};
-ghost use Rattle.fips204.specs.LongerFronts.{IsVerdictDecided};
+ghost use Rattle.fips204_base.specs.Streams.{Bytes, XOF};
+ghost use Rattle.fips204.specs.Framing.{Input, framed, represented, representative};
 ghost use Rattle.fips204.specs.ParameterSets.{ParameterSet, IsSet, c_tilde_length, public_key_length, private_key_length, signature_length};
-ghost use Rattle.fips204.specs.Prepared.{IsEachJudged, IsEachSigned, PreparedPrivate, PreparedPublic, VerifiesPrepared};
-ghost use Rattle.fips204.specs.Prepared.{prepared_private, prepared_public, sign_prepared};
-ghost use Rattle.fips204.specs.Refusals.{input_fault, VerifiesInput, sign_input};
-ghost use Rattle.fips204.specs.SchemeLaws.{AreFramedAlike, Fixes, NamesCollision, NamesHintCollision, NamesKeyCollision, framing};
-ghost use Rattle.fips204.specs.declared.types.pre_hash.TheConstants.{SHA2_224, SHA2_256, SHA2_384, SHA2_512, SHA2_512_224, SHA2_512_256};
-ghost use Rattle.fips204.specs.declared.types.pre_hash.TheConstants.{SHA3_224, SHA3_256, SHA3_384, SHA3_512, SHAKE_128, SHAKE_256};
+ghost use Rattle.fips204.specs.Refusals.{input_fault};
+ghost use Rattle.fips204.specs.SchemeLaws.{AreFramedAlike, Fixes, NamesCollision, NamesKeyCollision, framing};
 ghost use Rattle.fips204_bytes.specs.Bytes.{Generates, Signs, Judges, Derives, Checks, ChecksWholeness, ChecksPair};
 ghost use Rattle.fips204_bytes.specs.KeyRange.{HasFieldAbove};
 ghost use Rattle.fips204_bytes.specs.Pairs.{BelongTogether};
@@ -37,10 +25,6 @@ ghost use Rattle.fips204_bytes.specs.declared.refusal.Refusal.TheVariants.{Libra
 use crate::laws::{
     errors_leave_arrays, framed_stands_for_input, key_range, mu_stands_for_input, one_spelling,
     pair_accepts_written, prepared_stands_for_plain, signature_binds,
-};
-use fips204::laws::{
-    binding, challenge_product_bound, constants, high_bits_stay, longer_functions, packing,
-    prepared_keys, refusals, use_hint_distance, use_hint_of_make_hint,
 };
 
 /// Which keys belong together, and what is returned of such keys.
@@ -142,61 +126,4 @@ pub(crate) fn spelling_parts()
         × (IsPrivateKeyOf p.eta p.k p.l bytes sk' → sk' ≡ sk) }
 {
     one_spelling();
-}
-
-/// The laws of `fips204` that speak of the numbers of a set, at each set.
-pub(crate) fn laws_at_each_set()
-    ensures one_w1 { (p : ParameterSet) (H G : XOF) (pk : PublicParts) (signature w1 other : Bytes) → IsSet p → Fixes p H G pk signature w1
-        → Fixes p H G pk signature other → w1 ≡ other }
-    ensures hints { (p : ParameterSet) (H G : XOF) (pk : PublicParts) (input : Input) (first second : Bytes) → IsSet p → first ≢ second
-        → (let n = c_tilde_length p + 32 * width (pos (p.gamma1 - 1)) (pos p.gamma1) * p.l in take n first ≡ take n second)
-        → VerifiesInput p H G pk first input → VerifiesInput p H G pk second input
-        → NamesHintCollision p H G pk (representative H pk.tr input) first second }
-    ensures errors { (p : ParameterSet) (H G : XOF) (sk : PrivateParts) (random : Bytes) (input : Input) → IsSet p
-        → IfErr (sign_input p H G sk random input)
-        (λ fault. (input_fault input ≡ Some fault) ⊎ ((fault ≡ SamplingLimit) ⊎ (fault ≡ TooManyAttempts))) }
-    ensures products { (p : ParameterSet) (front : Bytes) (c s : R) → IsSet p → challenge p.tau front ≡ Some c → norm s.0 ≤ p.eta
-        → norm (polynomial_of (λ n. pos (product (coefficients c.0) (coefficients s.0) n))).0 ≤ p.tau * p.eta }
-    ensures hint { (p : ParameterSet) (z r : ℕ) → IsSet p → r < 8380417 → z < 8380417 → nat_abs (centred (pos z)) ≤ p.gamma2
-        → use_hint p.gamma2 (make_hint p.gamma2 z r) r ≡ high_bits p.gamma2 ((r + z) % 8380417) }
-    ensures distance { (p : ParameterSet) (r : ℕ) → IsSet p → r < 8380417
-        → (nat_abs (centred (pos r -ℤ pos (use_hint p.gamma2 false r * (2 * p.gamma2)))) ≤ p.gamma2)
-        × (nat_abs (centred (pos r -ℤ pos (use_hint p.gamma2 true r * (2 * p.gamma2)))) ≤ 2 * p.gamma2 + 1) }
-    ensures high_bits { (p : ParameterSet) (r s : ℕ) → IsSet p → r < 8380417 → s < 8380417 → nat_abs (centred (pos s)) ≤ p.beta
-        → nat_abs (low_bits p.gamma2 r) + p.beta < p.gamma2 → high_bits p.gamma2 ((r + s) % 8380417) ≡ high_bits p.gamma2 r }
-    ensures packed { (p : ParameterSet) (bytes : Bytes) → IsSet p → length bytes ≡ 32 * width (pos (p.gamma1 - 1)) (pos p.gamma1)
-        → All (λ byte. byte < 256) bytes → polynomial_bytes (pos (p.gamma1 - 1)) (pos p.gamma1) (unpacked (p.gamma1 - 1) p.gamma1 bytes).0 ≡ bytes }
-    ensures unpacked { (p : ParameterSet) (w : R) → IsSet p → length w.0 ≡ 256 → PolynomialInRange (pos 0 -ℤ pos (p.gamma1 - 1)) (pos p.gamma1) w.0
-        → unpacked (p.gamma1 - 1) p.gamma1 (polynomial_bytes (pos (p.gamma1 - 1)) (pos p.gamma1) w.0) ≡ w }
-    ensures each_signed { (p : ParameterSet) (H G : XOF) (sk : PrivateParts) (key : PreparedPrivate) (seeds messages : List Bytes) (context : Bytes)
-        (answers : List (Result Bytes Fault)) → IsSet p → prepared_private p G sk ≡ Ok key
-        → IsEachSigned (λ random message. sign_prepared p H key random (plain message context)) seeds messages answers
-        → IsEachSigned (λ random message. sign_input p H G sk random (plain message context)) seeds messages answers }
-    ensures each_judged { (p : ParameterSet) (H G : XOF) (pk : PublicParts) (key : PreparedPublic) (messages signatures : List Bytes) (context : Bytes)
-        (answers : List Bool) → IsSet p → prepared_public p G pk ≡ Ok key
-        → IsEachJudged (λ message signature. VerifiesPrepared p H key signature (plain message context)) messages signatures answers
-        → IsEachJudged (λ message signature. VerifiesInput p H G pk signature (plain message context)) messages signatures answers }
-    ensures challenge_stays { (p : ParameterSet) (H G H' G' : XOF) (input : Bytes) (c : R) → IsSet p → ((x : Bytes) → 4096 ≤ length (H x))
-        → ArePrefixes H H' → ArePrefixes G G' → challenge p.tau (H input) ≡ Some c → challenge p.tau (H' input) ≡ Some c }
-    ensures signature_stays { (p : ParameterSet) (H G H' G' : XOF) (sk : PrivateParts) (random : Bytes) (input : Input) → IsSet p
-        → ((x : Bytes) → 4096 ≤ length (H x)) → ArePrefixes H H' → ArePrefixes G G'
-        → sign_input p H G sk random input ≢ Err SamplingLimit → sign_input p H' G' sk random input ≡ sign_input p H G sk random input }
-    ensures verdict_stays { (p : ParameterSet) (H G H' G' : XOF) (pk : PublicParts) (signature : Bytes) (input : Input) → IsSet p
-        → ((x : Bytes) → 4096 ≤ length (H x)) → ArePrefixes H H' → ArePrefixes G G'
-        → (VerifiesInput p H G pk signature input → VerifiesInput p H' G' pk signature input)
-        × (IsVerdictDecided p H G pk signature ⊎ (input_fault input ≢ None) → VerifiesInput p H' G' pk signature input → VerifiesInput p H G pk signature input) }
-    ensures identifiers { (SHA2_224 ≡ hash_oid 4) × (SHA2_256 ≡ hash_oid 1) × (SHA2_384 ≡ hash_oid 2) × (SHA2_512 ≡ hash_oid 3)
-        × (SHA2_512_224 ≡ hash_oid 5) × (SHA2_512_256 ≡ hash_oid 6) × (SHA3_224 ≡ hash_oid 7) × (SHA3_256 ≡ hash_oid 8)
-        × (SHA3_384 ≡ hash_oid 9) × (SHA3_512 ≡ hash_oid 10) × (SHAKE_128 ≡ hash_oid 11) × (SHAKE_256 ≡ hash_oid 12) }
-{
-    binding();
-    challenge_product_bound();
-    constants();
-    high_bits_stay();
-    longer_functions();
-    packing();
-    prepared_keys();
-    refusals();
-    use_hint_distance();
-    use_hint_of_make_hint();
 }

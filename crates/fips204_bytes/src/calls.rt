@@ -8,14 +8,14 @@ ghost use Rattle.fips204.specs.Inputs.{input_of};
 ghost use Rattle.fips204.specs.Completeness.{TellsPair};
 ghost use Rattle.fips204.specs.PreparedBytes.{prepared_public_length, prepared_private_length};
 ghost use Rattle.fips204.specs.Keys.{TellsWhole};
-ghost use Rattle.fips204_bytes.specs.Bytes.{Generates, WritesPair, Signs, WritesSignature, Judges, TellsVerdict, Derives, WritesPublic, Checks, ChecksWholeness, ChecksPair};
+ghost use Rattle.fips204_bytes.specs.Bytes.{Generates, Signs, WritesSignature, Judges, TellsVerdict, Derives, WritesPublic, Checks, ChecksWholeness, ChecksPair};
 ghost use Rattle.fips204_bytes.specs.Prepared.{PreparesPublic, WritesPreparedPublic, JudgesPrepared, TellsPreparedVerdict, PreparesPrivate, WritesPreparedPrivate, SignsPrepared, WritesPreparedSignature};
 
 use crate::refusal::{Array, Refusal};
 use crate::slices::array_of;
 use fips204::Input;
 use fips204::sets::{HasSet, KeySizes, Matrix, Set, SignatureSizes};
-use fips204::traits::{KeyGen, SerDes, Signer, Verifier};
+use fips204::traits::{SerDes, Signer, Verifier};
 use fips204::types::{KG, PreparedPrivateKey, PreparedPublicKey, PrivateKey, PublicKey};
 use fips204::xof::Xof;
 use std::marker::PhantomData;
@@ -23,7 +23,7 @@ use std::marker::PhantomData;
 /// ML-DSA (FIPS 204) over bytes at one parameter set: the one whose matrix has `K` rows and `L` columns, over the XOFs `H`
 /// and `G` (SHAKE256 and SHAKE128 in the standard), of plain and of prepared keys.
 ///
-/// In contracts `S.set` is the set's row of the standard's tables. The calls make no value of this type.
+/// In contracts `S.set` is the parameter set's row of the standard's tables. The calls make no value of this type.
 pub struct Calls<const K: usize, const L: usize, H, G>(PhantomData<(H, G)>);
 
 /// The calls of ML-DSA-44.
@@ -67,26 +67,7 @@ where
         if private_key.len() != SK_LEN {
             return Err(Refusal::Length(Array::PrivateKey));
         }
-        Self::write_pair(seed, public_key, private_key)
-    }
-
-    #[inline(never)]
-    fn write_pair(
-        seed: &[u8; 32],
-        public_key: &mut [u8],
-        private_key: &mut [u8],
-    ) -> Result<(), Refusal>
-        requires lengths { (length public_key.old ≡ PK_LEN) × (length private_key.old ≡ SK_LEN) }
-        ensures { WritesPair S.set H.front G.front seed.now public_key.old public_key.new private_key.old private_key.new result }
-    {
-        match KG::<K, L, H, G>::keygen_from_seed(seed) {
-            Err(fault) => Err(Refusal::Library(fault)),
-            Ok((public, private)) => {
-                public_key.copy_from_slice(&public.into_bytes());
-                private_key.copy_from_slice(&private.into_bytes());
-                Ok(())
-            }
-        }
+        Ok(KG::<K, L, H, G>::write_pair(seed, public_key, private_key)?)
     }
 
     /// Signs an input from 32 random bytes (Algorithms 2, 4 and 7), and writes the signature; zeros give the deterministic
@@ -123,18 +104,15 @@ where
     {
         match &PrivateKey::<K, L, H, G>::try_from_bytes(*array_of(private_key)) {
             Err(fault) => Err(Refusal::Library(*fault)),
-            Ok(key) => match &key.sign_input(random, input) {
-                Err(fault) => Err(Refusal::Library(*fault)),
-                Ok(made) => {
-                    signature.copy_from_slice(made);
-                    Ok(())
-                }
-            },
+            Ok(key) => {
+                let signature = signature.as_mut_array::<SIG_LEN>().unwrap();
+                Ok(key.write_signature(random, input, signature)?)
+            }
         }
     }
 
     /// Tells whether a public key accepts the signature of an input (Algorithms 3, 5 and 8). It accepts none of an input that
-    /// signing refuses.
+    /// signing rejects.
     ///
     /// Errors: the length of `public_key`, then of `signature`.
     pub fn verify(public_key: &[u8], input: &Input<'_>, signature: &[u8]) -> Result<bool, Refusal>
@@ -379,13 +357,13 @@ where
         requires lengths { (length prepared.now ≡ prepared_private_length S.set) × (length signature.old ≡ SIG_LEN) }
         ensures { WritesPreparedSignature S.set H.front prepared.now random.now (input_of input.now) signature.old signature.new result }
     {
-        match &PreparedPrivateKey::<K, L, H>::sign_by_bytes(prepared, random, input) {
+        let signature = signature.as_mut_array::<SIG_LEN>().unwrap();
+        match PreparedPrivateKey::<K, L, H>::write_signature_by_bytes(
+            prepared, random, input, signature,
+        ) {
             None => Err(Refusal::NotPrepared),
-            Some(Err(fault)) => Err(Refusal::Library(*fault)),
-            Some(Ok(made)) => {
-                signature.copy_from_slice(made);
-                Ok(())
-            }
+            Some(Err(fault)) => Err(Refusal::Library(fault)),
+            Some(Ok(())) => Ok(()),
         }
     }
 }

@@ -13,7 +13,8 @@ ghost use Rattle.fips204_bytes.specs.Prepared.{PreparedStandsForPlain};
 ghost use Rattle.fips204_bytes.specs.Spellings.{HasOneSpelling};
 
 use fips204::laws::{
-    binding, key_bytes, prepared_bytes, prepared_keys, signature_spelling, signed_is_accepted,
+    binding, hooks, key_bytes, prepared_bytes, prepared_keys, signature_spelling,
+    signed_is_accepted,
 };
 
 /// The keys that one call of `keygen` wrote belong together, and so do a private key of which `is_pair` says yes and the
@@ -29,13 +30,17 @@ pub fn pair_accepts_written()
 /// private key's bytes; and verifying it is verifying that input, where mu is made with the hash of the public key's bytes.
 pub fn mu_stands_for_input()
     ensures { (p : ParameterSet) (H G : XOF) → MuStandsForInput p H G }
-{}
+{
+    hooks();
+}
 
 /// Signing the framed message M' of an input that breaks no condition is signing that input, and verifying it is verifying
 /// that input.
 pub fn framed_stands_for_input()
     ensures { (p : ParameterSet) (H G : XOF) → FramedStandsForInput p H G }
-{}
+{
+    hooks();
+}
 
 /// One signature for two values of mu, for two inputs or under two keys gives a collision of `H`: if `verify` says yes to one
 /// signature under one public key for two different values of mu, or for two inputs that differ, both messages or digests, or
@@ -68,8 +73,8 @@ pub fn key_range()
     ensures { (p : ParameterSet) → IsSet p → RangeIsOfFields p }
 {}
 
-/// Signatures, public keys and private keys have one spelling each: bytes that decode are as many as the set's, what they decode to
-/// encodes to them, no other array decodes to it, and they decode to nothing else.
+/// Signatures, public keys and private keys have one spelling each: bytes that decode are as many as the parameter
+/// set's, what they decode to encodes to them, no other array decodes to it, and they decode to nothing else.
 pub fn one_spelling()
     ensures { (p : ParameterSet) (H : XOF) → IsSet p → HasOneSpelling p H }
 {

@@ -1,5 +1,5 @@
 //! Keys of ML-DSA in DER (RFC 9881), read where they lie and written into the arrays of the caller. Of ML-DSA only the names
-//! of the sets and their lengths are used.
+//! of the parameter sets and their lengths are used.
 #![tactic(auto)]
 
 mod der;

@@ -29,7 +29,7 @@ pub(crate) fn limits() -> (usize, u16)
     (MAX_PREHASH_LEN, MAX_SIGN_ATTEMPTS)
 }
 
-/// The keys that the calls over bytes of a set by its name make.
+/// The keys that the calls over bytes of a parameter set by its name make.
 pub(crate) fn generated_by_name(
     set: SetName,
     seed: &[u8; 32],

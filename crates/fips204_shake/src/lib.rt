@@ -1,8 +1,8 @@
 //! ML-DSA of FIPS 204: the library `fips204` over SHAKE256 and SHAKE128.
 //!
-//! `MlDsa44`, `MlDsa65` and `MlDsa87` have the calls of a set with keys and signatures as slices, and no type of a key: `keygen`,
-//! `sign`, `verify`, `public_key`, `check_private_key`, `is_whole`, `is_pair`, and those with prepared keys. From
-//! `crates/mldsa_examples/src/over_bytes.rt`:
+//! `MlDsa44`, `MlDsa65` and `MlDsa87` have the calls of a parameter set with keys and signatures as slices, and no type
+//! of a key: `keygen`, `sign`, `verify`, `public_key`, `check_private_key`, `is_whole`, `is_pair`, and those with
+//! prepared keys. From `crates/mldsa_examples/src/over_bytes.rt`:
 //!
 //! ```rust
 //!     MlDsa65::keygen(seed, &mut public_key, &mut private_key)?;
@@ -54,5 +54,5 @@ pub type MlDsa65 = Calls<6, 5, Shake256Stream, Shake128Stream>;
 /// The calls of ML-DSA-87 over bytes.
 pub type MlDsa87 = Calls<8, 7, Shake256Stream, Shake128Stream>;
 
-/// The calls over bytes of a set by its name.
+/// The calls over bytes of a parameter set by its name.
 pub type MlDsa = ByName<Shake256Stream, Shake128Stream>;

@@ -7,7 +7,7 @@ use fips204_shake::{Input, MlDsa, Refusal, SetName, ml_dsa_44, ml_dsa_65, ml_dsa
 use std::test::Fail;
 
 /// With the keys of one seed: whether the prepared key signs as the plain one does, whether its public key accepts that, whether
-/// it refuses another message, and whether bytes with words above `q` are no prepared keys.
+/// it rejects another message, and whether bytes with words above `q` are no prepared keys.
 fn answers<
     const PK: usize,
     const SK: usize,
@@ -40,7 +40,7 @@ fn answers<
     ])
 }
 
-/// Prepared keys of ML-DSA-44 answer as the plain ones.
+/// Prepared keys of ML-DSA-44 work as the plain ones.
 #[test]
 fn prepared_44(rt: HostRuntime) -> Result<(), Fail> {
     let found = answers::<
@@ -54,7 +54,7 @@ fn prepared_44(rt: HostRuntime) -> Result<(), Fail> {
     Ok(())
 }
 
-/// Prepared keys of ML-DSA-65 answer as the plain ones.
+/// Prepared keys of ML-DSA-65 work as the plain ones.
 #[test]
 fn prepared_65(rt: HostRuntime) -> Result<(), Fail> {
     let found = answers::<
@@ -68,7 +68,7 @@ fn prepared_65(rt: HostRuntime) -> Result<(), Fail> {
     Ok(())
 }
 
-/// Prepared keys of ML-DSA-87 answer as the plain ones.
+/// Prepared keys of ML-DSA-87 work as the plain ones.
 #[test]
 fn prepared_87(rt: HostRuntime) -> Result<(), Fail> {
     let found = answers::<

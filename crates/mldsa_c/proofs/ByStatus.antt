@@ -1,4 +1,4 @@
--- What an answer over bytes was, by its status; and what is answered of keys that belong together.
+-- What a result over bytes was, by its status; and what calls return for keys that belong together.
 use Rattle.std.proofs.Common.{◌≡◌, ◌≢◌, ◌≤◌, ℕ, Bool, true, false, List, length, Result, Ok, Err, refl, ap, ◌∙◌, arith, subst, inl, inr}
 use Rattle.std.proofs.lemmas.Bool.Decides.{eqb_tells}
 use Rattle.std.specs.Prelude.{⊤}
@@ -37,11 +37,11 @@ done (Err (Length which)) e = absurd cc
 done (Err (Library fault)) e = absurd (not_done fault e)
 done (Err NotPrepared) e = absurd cc
 
--- what a call that is done answers over bytes
+-- what a call that is done returns over bytes
 pub does : (says : Result ⊤ Refusal → Type 0) → Done says 0 → says (Ok tt)
 does says (answer, answered, is) = subst says (done answer is) answered
 
--- the status of yes is of no other answer
+-- the status of yes is of no other result
 yes : (answer : Result Bool Refusal) → 0 ≡ answer_status answer → answer ≡ Ok true
 yes (Ok true) e = refl
 yes (Ok false) e = absurd cc
@@ -49,7 +49,7 @@ yes (Err (Length which)) e = absurd cc
 yes (Err (Library fault)) e = absurd (not_done fault e)
 yes (Err NotPrepared) e = absurd cc
 
--- what a question that is answered by yes answers over bytes
+-- what a question whose status is yes returns over bytes
 pub said : (says : Result Bool Refusal → Type 0) → Told says 0 → says (Ok true)
 said says (answer, answered, is) = subst says (yes answer is) answered
 
@@ -65,7 +65,7 @@ either wanted bytes f g both = elim (eqb_tells (length bytes) wanted) [
   | inr (_, differ) ↦ g (both.1 differ)
 ]
 
--- an array that isn't refused has its length
+-- an array that isn't rejected has its length
 pub fits : {P Q : Type 0} (wanted : ℕ) (bytes : List ℕ) → IfSized wanted bytes P Q → ¬ Q → (length bytes ≡ wanted) × P
 fits wanted bytes both never = elim (eqb_tells (length bytes) wanted) [
   | inl (_, same) ↦ (same, both.0 same)

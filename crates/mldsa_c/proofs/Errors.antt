@@ -1,4 +1,4 @@
--- What a status other than 0 leaves of the arrays that a call writes, and what a digest is answered by.
+-- What a status other than 0 leaves of the arrays that a call writes, and the status of a digest.
 use Rattle.std.proofs.Common.{◌≡◌, ◌≢◌, ◌<◌, ◌≤◌, ℕ, List, Option, Some, None, refl, sym, ◌∙◌, inl, inr, arith, length, ◌⊎◌}
 use Rattle.std.specs.Prelude.{◌↔◌, MatchOption}
 use Rattle.std.proofs.lemmas.Bool.{cases_lt}

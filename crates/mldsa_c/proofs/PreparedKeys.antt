@@ -1,4 +1,4 @@
--- The calls with a prepared key answer as those of their names, since the calls over bytes do.
+-- The calls with a prepared key return what those of their names do, since the calls over bytes do.
 use Rattle.std.proofs.Common.{ℕ, List}
 use Rattle.fips204.specs.Framing.{Input}
 use Rattle.fips204.specs.ParameterSets.{ParameterSet}

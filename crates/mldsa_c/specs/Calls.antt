@@ -14,7 +14,7 @@ Done answers status = (answer : Result ⊤ Refusal) × answers answer × (status
 abbrev pub Told : (Result Bool Refusal → Type 0) → ℕ → Type 0
 Told answers status = (answer : Result Bool Refusal) × answers answer × (status ≡ answer_status answer)
 
--- an array has this many bytes, or the call refuses
+-- an array has this many bytes, or the call returns an error
 abbrev pub IfSized : ℕ → List ℕ → Type 0 → Type 0 → Type 0
 IfSized wanted bytes fits refuses = ((length bytes ≡ wanted) → fits) × ((length bytes ≢ wanted) → refuses)
 
@@ -37,7 +37,7 @@ SignMuAnswers p key mu random old new status = IfSized 64 mu (SignAnswers p key 
 abbrev pub VerifyAnswers : ParameterSet → List ℕ → Input → List ℕ → ℕ → Type 0
 VerifyAnswers p key input signature status = Told (bytes.Judges p shake256_front shake128_front key input signature) status
 
--- accepts: 1 if verify answers yes, and 0 if it answers anything else
+-- accepts: 1 if verify returns yes, and 0 if it returns anything else
 abbrev pub AcceptsAnswers : ParameterSet → List ℕ → Input → List ℕ → ℕ → Type 0
 AcceptsAnswers p key input signature answer = (status : ℕ) × VerifyAnswers p key input signature status × (answer ≡ accepted status)
 

@@ -19,7 +19,8 @@ use Rattle.mldsa_c.specs.Calls.{IfSized}
 use Rattle.mldsa_c.specs.Pieces.{Keeps}
 use Rattle.mldsa_c.specs.Statuses.{status_of, refusal_status}
 
--- the status of each fault; a key of another set has 24, one whose parts do not belong together 25, and one without a seed 26
+-- the status of each fault; a key of another parameter set has 24, one whose parts do not belong together 25, and one
+-- without a seed 26
 abbrev pub status_of_der : DerFault → ℕ
 status_of_der Short = 18
 status_of_der Behind = 19
@@ -28,11 +29,11 @@ status_of_der Version = 21
 status_of_der OtherAlgorithm = 22
 status_of_der KeyLength = 23
 
--- two values are the same, or the call refuses
+-- two values are the same, or the call returns an error
 abbrev pub IfSame : {A : Type 0} → A → A → Type 0 → Type 0 → Type 0
 IfSame one other fits refuses = ((one ≡ other) → fits) × ((one ≢ other) → refuses)
 
--- the private key that a seed generates is used, or the call refuses
+-- the private key that a seed generates is used, or the call returns an error
 abbrev pub IfGenerated : ParameterSet → List ℕ → (List ℕ → Type 0) → (ℕ → Type 0) → Type 0
 IfGenerated p seed uses refuses =
     MatchResult (generated p shake256_front shake128_front seed) (λ pair. uses (private_key_bytes p.eta pair.1)) (λ fault. refuses (status_of fault))
@@ -42,13 +43,13 @@ abbrev pub status_of_pair : Refusal → ℕ
 status_of_pair (Library KeyRange) = 25
 status_of_pair why = refusal_status why
 
--- a private key and the public key that belongs to it are a pair, or the call refuses
+-- a private key and the public key that belongs to it are a pair, or the call returns an error
 abbrev pub IfPair : ParameterSet → List ℕ → Type 0 → (ℕ → Type 0) → Type 0
 IfPair p key fits refuses = (answer : Result Bool Refusal) × bytes.ChecksPair p shake256_front shake128_front key answer
     × MatchResult answer (λ pair. MatchBool pair fits (refuses 25)) (λ why. refuses (status_of_pair why))
 
--- a private key in DER has keys, and the expanded one is used, or the call refuses: the seed generates it, and it is the one beside
--- the seed; or an expanded key alone is one of a pair
+-- a private key in DER has keys, and the expanded one is used, or the call returns an error: the seed generates it, and
+-- it is the one beside the seed; or an expanded key alone is one of a pair
 abbrev pub IfConsistent : ParameterSet → PrivateParts → (List ℕ → Type 0) → (ℕ → Type 0) → Type 0
 IfConsistent p (Seed seed) uses refuses = IfGenerated p seed uses refuses
 IfConsistent p (Expanded expanded) uses refuses = IfPair p expanded (uses expanded) refuses
@@ -60,7 +61,7 @@ IfSeed p (Seed seed) uses refuses = uses seed
 IfSeed p (Expanded expanded) uses refuses = refuses 26
 IfSeed p (Both seed expanded) uses refuses = IfConsistent p (Both seed expanded) (λ key. uses seed) refuses
 
--- reading a key of a set: the key, or the first fault from the beginning of the DER
+-- reading a key of a parameter set: the key, or the first fault from the beginning of the DER
 abbrev pub Reads : {A : Type 0} → Result (SetName × A) DerFault → SetName → (A → Type 0) → (ℕ → Type 0) → Type 0
 Reads read set uses refuses = MatchResult read (λ x. IfSame x.0 set (uses x.1) (refuses 24)) (λ fault. refuses (status_of_der fault))
 

@@ -1,10 +1,10 @@
--- The texts of the numbers that the exported calls answer.
+-- The texts of the numbers that the exported calls return.
 use Rattle.std.specs.Prelude.{◌≡◌, ℕ, List, [], ◌∷◌, ◌++◌, ◌-◌, length, replicate, slice_index_or, codes}
 use Rattle.fips204_base.specs.Faults.{words}
 use Rattle.fips204_base.specs.declared.fault.Fault.TheVariants.{SignCtx, HashCtx, OidEmpty, OidNotDer, DigestTooLong, DigestLength, TooManyAttempts, KeyRange, SamplingLimit}
 use Rattle.mldsa_c.specs.Calls.{IfSized}
 
--- the text of a number that no call answers
+-- the text of a number that no call returns
 abbrev pub no_status : List ℕ
 no_status = codes "no answer of this library"
 

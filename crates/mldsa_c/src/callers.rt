@@ -70,7 +70,7 @@ pub fn laws_over_bytes()
 }
 
 /// A message in pieces: signing or verifying the mu that `mldsa_mu_finish` writes is signing or verifying the joined pieces under
-/// the context; and a state of zeros, which no call writes, is refused.
+/// the context; and a state of zeros, which no call writes, is rejected.
 pub fn message_in_pieces()
     ensures signed { (p : ParameterSet) (key context begun state taken none mu : List ℕ) (pieces : List (List ℕ)) (random old new : List ℕ) (status : ℕ)
         → Begins (private_key_length p) key (tr_of_private key) context begun state 0 → Takes state pieces taken → Finishes taken none mu 0

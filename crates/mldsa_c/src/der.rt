@@ -129,7 +129,7 @@ fn write_seed(set: SetName, key: PrivateKey<'_>, out: &mut [u8]) -> u32
     }
 }
 
-/// The private key of a set that DER has; an error is a status.
+/// The private key of a parameter set that DER has; an error is a status.
 fn private_key_of(set: SetName, der: &[u8]) -> Result<PrivateKey<'_>, u32>
     ensures sizes { IfOk result (λ key. HasPrivateSizes (private_length set) (private_parts key)) }
     ensures exact { Reads (private_at der.now) set (λ parts. IsKey result parts) (λ why. result ≡ Err why) }
@@ -141,7 +141,7 @@ fn private_key_of(set: SetName, der: &[u8]) -> Result<PrivateKey<'_>, u32>
     }
 }
 
-/// Reads a public key of a set.
+/// Reads a public key of a parameter set.
 pub(crate) fn public_key_from_der(set: SetName, der: &[u8], public_key: &mut [u8]) -> u32
     ensures { PublicKeyFromDer set der.now public_key.old public_key.new result }
 {
@@ -158,7 +158,7 @@ pub(crate) fn public_key_from_der(set: SetName, der: &[u8], public_key: &mut [u8
     }
 }
 
-/// Reads a private key of a set, and writes its expanded key.
+/// Reads a private key of a parameter set, and writes its expanded key.
 pub(crate) fn private_key_from_der(set: SetName, der: &[u8], private_key: &mut [u8]) -> u32
     ensures { PrivateKeyFromDer set der.now private_key.old private_key.new result }
 {
@@ -171,7 +171,7 @@ pub(crate) fn private_key_from_der(set: SetName, der: &[u8], private_key: &mut [
     }
 }
 
-/// Reads the seed of a private key of a set.
+/// Reads the seed of a private key of a parameter set.
 pub(crate) fn seed_from_der(set: SetName, der: &[u8], seed: &mut [u8]) -> u32
     ensures { SeedFromDer set der.now seed.old seed.new result }
 {

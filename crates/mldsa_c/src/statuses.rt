@@ -86,7 +86,7 @@ pub(crate) fn verdict_status(answer: Result<bool, Refusal>) -> u32
     }
 }
 
-/// 1 for the status of the answer yes, and 0 for every other one.
+/// 1 for the status of yes, and 0 for every other one.
 pub(crate) fn accepted(status: u32) -> u32
     ensures { result ≡ accepted status }
 {

@@ -1,4 +1,4 @@
-//! The texts of the numbers that the exports answer.
+//! The texts of the numbers that the exports return.
 #![tactic(auto)]
 
 ghost use Rattle.std.specs.Prelude.{◌≡◌, ◌≤◌, ◌++◌, ◌-◌, length, replicate, slice_index_or, map};
@@ -6,7 +6,7 @@ ghost use Rattle.mldsa_c.specs.Texts.{no_status, text_of, TextOfAnswers};
 
 use crate::statuses::{DONE, WRONG_LENGTH};
 
-/// The text of a number that no call answers.
+/// The text of a number that no call returns.
 const NO_STATUS: &str = "no answer of this library";
 
 /// The text of each number from 0 on.

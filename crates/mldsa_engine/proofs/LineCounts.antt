@@ -54,7 +54,7 @@ four_counted now w x y z (a ∷ b ∷ c ∷ []) other fit = absurd fit.1.1.1
 four_counted now w x y z (a ∷ b ∷ c ∷ d ∷ []) other fit = refl
 four_counted now w x y z (a ∷ b ∷ c ∷ d ∷ e ∷ more) other fit = absurd fit.1.1.1.1
 
--- a command of one line answers, by what it writes for that line's bytes
+-- what a command of one line does, by what it writes for that line's bytes
 pub answers_one : {V W E : Type 0} (items : V → List ℕ) (text : W → List ℕ) (success : W → Bool) (H G : List ℕ → List ℕ) (task : Task)
     (p : ParameterSet) (w : Option ℕ) (R : List ℕ → List ℕ → Bool → Type 0) (lines : List V) (first : V) (a : List ℕ) (result : Result W E)
     → ((a output : List ℕ) (answer : Bool) → R a output answer → Answers H G task p (a ∷ []) output answer)
@@ -64,7 +64,7 @@ answers_one items text success H G task p w R lines first a (Err fault) means fi
 answers_one items text success H G task p w R lines first a (Ok it) means fit p0 e0 told =
     rw (one_counted items w lines first fit p0, ← e0) (means a (text it) (success it) told)
 
--- a command of four lines answers, by what it writes for the fields that have their bytes
+-- what a command of four lines does, by what it writes for the fields that have their bytes
 pub answers_four : {V W E : Type 0} (now : V → List ℕ) (text : W → List ℕ) (success : W → Bool) (H G : List ℕ → List ℕ) (task : Task)
     (p : ParameterSet) (w x y z : Option ℕ) (R : List ℕ → List ℕ → List ℕ → List ℕ → List ℕ → Bool → Type 0)
     (lines : List (List ℕ)) (fields : List V) (other : V) (a b : List ℕ) (result : Result W E)
@@ -78,7 +78,7 @@ answers_four now text success H G task p w x y z R lines fields other a b (Ok it
     let whole = four_counted now w x y z fields other (rw is fit) in
     rw (← is, whole, ← first, ← second) (means a b _ _ (text it) (success it) told)
 
--- a command was carried out, by what it answers for all its lines
+-- a command was carried out, by what it returns for all its lines
 pub executes_lines : {W E : Type 0} (text : W → List ℕ) (success : W → Bool) (H G : List ℕ → List ℕ) (task : Task) (p : ParameterSet)
     (given left : Option (List ℕ)) (lines : List (List ℕ)) (result : Result W E) → TakesLines 1 (input_lines task p given) given left lines
     → IfOk result (λ it. Answers H G task p lines (text it) (success it))

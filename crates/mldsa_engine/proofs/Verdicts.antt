@@ -1,4 +1,4 @@
--- What is told of a signature, and the answers of a batch, one after another, and by a prepared key.
+-- What is told of a signature, and the results of a batch, one after another, and by a prepared key.
 use Rattle.std.proofs.Common.{◌≡◌, ℕ, ◌+◌, ◌*◌, ◌<◌, Bool, true, false, IsTrue, ◌↔◌, List, [], ◌∷◌, ◌++◌, length, map, get_or, inl, inr, refl, sym, ap, ◌∙◌, arith, subst, length-append, Result, Ok, Err, Some, None}
 use Rattle.std.proofs.lemmas.List.{get_or_append_left, get_or-append-add, map-append, flat_map_more}
 use Rattle.std.proofs.lemmas.List.Elements.{All-nil, All-push, All-pop}
@@ -21,7 +21,7 @@ use Rattle.mldsa_engine.specs.InnerSteps.{AcceptsIfPrepared, JudgesEntries, Judg
 use Rattle.mldsa_lines.proofs.LinesInSequence.{no_lines}
 use Rattle.mldsa_engine.proofs.Entries.{next_entry}
 
--- the answer to one entry more
+-- the result for one entry more
 answers_next : (accepts : List ℕ → List ℕ → Type 0) (entries : List (List ℕ)) (answers : List Bool) (signature message : List ℕ)
     (answer : Bool) → (IsTrue answer ↔ accepts signature message) → AnswersEach accepts entries answers
     → AnswersEach accepts (entries ++ signature ∷ message ∷ []) (answers ++ answer ∷ [])
@@ -93,7 +93,7 @@ judges_next items accepts size entry number old mid new
 judges_next items accepts size entry number old mid new
     (a ∷ b ∷ c ∷ more) first second before after all next answer s m numbered fit takes is is' e e' now grown both told = absurd fit.1.1
 
--- what preparing a key answered accepts what the key does
+-- what preparing a key returned accepts what the key does
 accepts_as_key : (p : ParameterSet) (H G : List ℕ → List ℕ) (matrix : Option (List (List T))) (pk : PublicParts)
     (message signature context : List ℕ) → PreparedAnswersAsPlain p H G → sampled_matrix G pk.rho p.k p.l ≡ matrix
     → AcceptsIfPrepared p H (ok_or (option_map (λ a. record { parts = pk; matrix = a }) matrix) SamplingLimit) message signature context
@@ -104,7 +104,7 @@ accepts_as_key p H G (Some a) pk message signature context law there =
     law.verify_inputs pk record { parts = pk; matrix = a } signature (plain message context)
     (ap (λ matrix. ok_or (option_map (λ a. record { parts = pk; matrix = a }) matrix) SamplingLimit) there)
 
--- the answers are those of what accepts the same
+-- the results are those of what accepts the same
 answers_alike : (accepts alike : List ℕ → List ℕ → Type 0) (entries : List (List ℕ)) (answers : List Bool)
     → ((signature message : List ℕ) → accepts signature message ↔ alike signature message)
     → AnswersEach accepts entries answers → AnswersEach alike entries answers
@@ -115,7 +115,7 @@ answers_alike accepts alike entries answers same (size, each) = (
       (λ t. here.0 ((each entry within).0 t), λ a. (each entry within).1 (here.1 a)),
 )
 
--- so what it answers for each entry is whether the key accepts it
+-- so what it returns for each entry is whether the key accepts it
 pub judged_by_prepared : {W E : Type 0} (output : W → List ℕ) (success : W → Bool) (p : ParameterSet) (H G : List ℕ → List ℕ)
     (pk : PublicParts) (prepared : Result PreparedPublic Fault) (key context : List ℕ) (size count : ℕ) (given left : Option (List ℕ))
     (result : Result W E) → PreparedAnswersAsPlain p H G → IsPublicKeyOf H p.k key pk → prepared ≡ prepared_public p G pk

@@ -9,7 +9,7 @@ use Rattle.fips204.specs.Framing.{plain}
 use Rattle.mldsa_lines.specs.Lines.{AllFit, TakesLines}
 use Rattle.mldsa_engine.specs.ProgramText.{entry_lines, AnswersEach, TellsAll}
 
--- what preparing a key returned accepts a message: nothing where it refused
+-- what preparing a key returned accepts a message: nothing where it failed
 abbrev pub AcceptsIfPrepared : ParameterSet → (List ℕ → List ℕ) → Result PreparedPublic Fault → List ℕ → List ℕ → List ℕ → Type 0
 AcceptsIfPrepared p H prepared message signature context =
     MatchResult prepared (λ key. VerifiesPrepared p H key signature (plain message context)) (λ _. ⊥)

@@ -57,7 +57,7 @@ abbrev pub entries_of : Option (List ℕ) → ℕ
 entries_of None = 0
 entries_of (Some input) = entries_of_line (line_bytes 3 (Some 2) (after_lines 2 input))
 
--- all the lines that a command wants of an input, with the numbers of a set, and by the set's name
+-- all the lines that a command wants of an input, with the numbers of a parameter set, and by its name
 abbrev pub input_lines : Task → ParameterSet → Option (List ℕ) → List (Option ℕ)
 input_lines task p given = wanted_lines task p ++ later_lines task p (entries_of given)
 
@@ -81,7 +81,7 @@ abbrev pub Tells : {A : Type 0} → (A → List (List ℕ)) → Result A Fault �
 Tells lines (Ok value) output answer = (output ≡ hex_text (lines value)) × (answer ≡ true)
 Tells lines (Err fault) output answer = Refuses fault output answer
 
--- what is told of bytes that spell a key or are refused: what is told of the key, or the error
+-- what is told of bytes that spell a key or are rejected: what is told of the key, or the error
 abbrev pub TellsOfKey : {K : Type 0} → (Result K Fault → Type 0) → (K → List ℕ → Bool → Type 0) → List ℕ → Bool → Type 0
 TellsOfKey {K} decodes tells output answer = (decoded : Result K Fault) × decodes decoded
     × MatchResult decoded (λ key. tells key output answer) (λ fault. Refuses fault output answer)

@@ -28,7 +28,7 @@ use std::marker::PhantomData;
 pub(crate) use writing::Output;
 use writing::{one_line, refuse, tell, two_lines};
 
-/// Reads the lines that a command wants, and carries it out at a set.
+/// Reads the lines that a command wants, and carries it out at a parameter set.
 pub(crate) fn execute<H: Xof, G: Xof, I: Read>(
     alloc: Global,
     task: Task,
@@ -49,7 +49,7 @@ pub(crate) fn execute<H: Xof, G: Xof, I: Read>(
     }
 }
 
-/// The commands at the set whose matrix has `K` rows and `L` columns, over the XOFs `H` and `G`.
+/// The commands at the parameter set whose matrix has `K` rows and `L` columns, over the XOFs `H` and `G`.
 ///
 /// A command is not inlined, so that its keys stand in the stack alone.
 struct AtSet<const K: usize, const L: usize, H, G>(PhantomData<(H, G)>);

@@ -5,7 +5,7 @@ use Rattle.fips204.specs.ParameterSets.{set_44}
 use Rattle.mldsa_examples.specs.KeyStore.{file_fault, LoadsStored, LoadsStoredPublic}
 use Rattle.mldsa_examples.specs.declared.key_store.LoadFault.{LoadFault}
 
--- a file with the header and so many bytes is not refused for these
+-- a file with the header and so many bytes is not rejected for these
 not_refused : (size : ℕ) (file rest : List ℕ) (fault : LoadFault) → nat_eq size size ≡ true → length file ≡ size → file ≡ 1 ∷ 44 ∷ rest
     → file_fault size file ≡ Some fault → ⊥
 not_refused size file rest fault same long itself refused =

@@ -1,4 +1,5 @@
--- The files of a private and of a public key, for an example: a byte of the version, one of the set, and the key's bytes.
+-- The files of a private and of a public key, for an example: a byte of the version, one of the parameter set, and the
+-- key's bytes.
 use Rattle.std.specs.Prelude.{◌≡◌, ◌⊎◌, ℕ, List, ◌∷◌, length, take, drop, slice_index, nat_eq, Option, Some, None, Result, Ok, Err, MatchResult, if◌then◌else◌}
 use Rattle.fips204_base.specs.Encodings.{PublicParts, PrivateParts, ArePublicParts, ArePrivateParts, IsPublicKeyOf, IsPrivateKeyOf, public_key_bytes, private_key_bytes}
 use Rattle.fips204_base.specs.declared.fault.Fault.TheVariants.{SamplingLimit}
@@ -14,7 +15,7 @@ file_of sk = 1 ∷ 44 ∷ private_key_bytes 2 sk
 abbrev pub public_file_of : PublicParts → List ℕ
 public_file_of pk = 1 ∷ 44 ∷ public_key_bytes pk.rho pk.t1
 
--- what refuses a file of so many bytes before its key is read, in this order
+-- the error of a file of so many bytes before its key is read, in this order
 abbrev pub file_fault : ℕ → List ℕ → Option LoadFault
 file_fault size file =
     if nat_eq (length file) size then (if nat_eq (slice_index file 0) 1 then (if nat_eq (slice_index file 1) 44 then None else Some WrongSet) else Some WrongHeader)

@@ -1,6 +1,6 @@
-//! Functions that call the library at one set, with clauses in the words of the definitions. They are proved by search;
-//! those that ask whether a key accepts what another signs have files with their answers (`accepts_what_it_signs` is found
-//! without it in ten seconds), and the last two cite laws of traits.
+//! Functions that call the library at one parameter set, with clauses in the words of the definitions. They are proved
+//! by search; those that ask whether a key accepts what another signs have files with their answers
+//! (`accepts_what_it_signs` is found without it in ten seconds), and the last two cite laws of traits.
 #![tactic(auto)]
 
 ghost use Rattle.std.specs.Prelude.{◌≡◌, ◌≢◌, ◌↔◌, ◌<◌, [], true, length, None, Ok, Err, IsTrue, IfOk};
@@ -20,7 +20,7 @@ use fips204::traits::{
 use fips204::xof::Xof;
 use fips204::{Fault, laws, ml_dsa_44, ml_dsa_65, ml_dsa_87};
 
-/// Signs with a key of set 44.
+/// Signs with a key of ML-DSA-44.
 pub fn signed_at_44<H: Xof, G: Xof>(
     key: &ml_dsa_44::PrivateKey<H, G>,
     rnd: &[u8; 32],
@@ -34,7 +34,7 @@ pub fn signed_at_44<H: Xof, G: Xof>(
     key.try_sign_with_seed(rnd, message, ctx)
 }
 
-/// Signs a message with one key of set 44, and verifies it with another.
+/// Signs a message with one key of ML-DSA-44, and verifies it with another.
 pub fn signed_and_verified_at_44<H: Xof, G: Xof>(
     private: &ml_dsa_44::PrivateKey<H, G>,
     public: &ml_dsa_44::PublicKey<H, G>,
@@ -50,7 +50,7 @@ pub fn signed_and_verified_at_44<H: Xof, G: Xof>(
     Ok((signature, accepted))
 }
 
-/// Signs a message under the empty context with a prepared key of set 44.
+/// Signs a message under the empty context with a prepared key of ML-DSA-44.
 pub fn signed_prepared_at_44<H: Xof>(
     key: &ml_dsa_44::PreparedPrivateKey<H>,
     rnd: &[u8; 32],
@@ -61,7 +61,7 @@ pub fn signed_prepared_at_44<H: Xof>(
     key.try_sign_with_seed(rnd, message, &[])
 }
 
-/// Reads a private key of set 44.
+/// Reads a private key of ML-DSA-44.
 pub fn decoded_at_44<H: Xof, G: Xof>(
     bytes: [u8; ml_dsa_44::SK_LEN],
 ) -> Result<ml_dsa_44::PrivateKey<H, G>, Fault>
@@ -82,7 +82,7 @@ pub fn made_at_65<H: Xof, G: Xof>(
     ml_dsa_65::KG::<H, G>::keygen_from_seed(xi)
 }
 
-/// Signs a digest with a key of set 65.
+/// Signs a digest with a key of ML-DSA-65.
 pub fn digest_signed_at_65<H: Xof, G: Xof>(
     key: &ml_dsa_65::PrivateKey<H, G>,
     rnd: &[u8; 32],
@@ -95,7 +95,7 @@ pub fn digest_signed_at_65<H: Xof, G: Xof>(
     key.try_hash_sign_with_seed(rnd, digest, ctx, oid)
 }
 
-/// Verifies a digest with a prepared key of set 65.
+/// Verifies a digest with a prepared key of ML-DSA-65.
 pub fn digest_verified_at_65<H: Xof>(
     key: &ml_dsa_65::PreparedPublicKey<H>,
     digest: &[u8],
@@ -108,7 +108,7 @@ pub fn digest_verified_at_65<H: Xof>(
     key.hash_verify(digest, signature, ctx, oid)
 }
 
-/// Prepares a key of set 65.
+/// Prepares a key of ML-DSA-65.
 pub fn prepared_at_65<H: Xof, G: Xof>(
     key: &ml_dsa_65::PrivateKey<H, G>,
 ) -> Result<ml_dsa_65::PreparedPrivateKey<H>, Fault>
@@ -117,7 +117,7 @@ pub fn prepared_at_65<H: Xof, G: Xof>(
     key.prepare()
 }
 
-/// Prepares a private key of set 87.
+/// Prepares a private key of ML-DSA-87.
 pub fn prepared_at_87<H: Xof, G: Xof>(
     key: &ml_dsa_87::PrivateKey<H, G>,
 ) -> Result<ml_dsa_87::PreparedPrivateKey<H>, Fault>
@@ -126,7 +126,7 @@ pub fn prepared_at_87<H: Xof, G: Xof>(
     key.prepare()
 }
 
-/// Prepares a public key of set 87.
+/// Prepares a public key of ML-DSA-87.
 pub fn public_prepared_at_87<H: Xof, G: Xof>(
     key: &ml_dsa_87::PublicKey<H, G>,
 ) -> Result<ml_dsa_87::PreparedPublicKey<H>, Fault>
@@ -135,7 +135,7 @@ pub fn public_prepared_at_87<H: Xof, G: Xof>(
     key.prepare()
 }
 
-/// Signs the hash of a framed message with drawn bytes and a key of set 87.
+/// Signs the hash of a framed message with drawn bytes and a key of ML-DSA-87.
 pub fn hash_signed_at_87<H: Xof, G: Xof, R: CryptoRngCore>(
     key: &ml_dsa_87::PrivateKey<H, G>,
     rng: &mut R,
@@ -148,7 +148,7 @@ pub fn hash_signed_at_87<H: Xof, G: Xof, R: CryptoRngCore>(
     key.sign_mu(rng, mu, true)
 }
 
-/// Verifies the hash of a framed message with a key of set 87.
+/// Verifies the hash of a framed message with a key of ML-DSA-87.
 pub fn hash_verified_at_87<H: Xof, G: Xof>(
     key: &ml_dsa_87::PublicKey<H, G>,
     mu: &[u8; 64],
@@ -159,7 +159,7 @@ pub fn hash_verified_at_87<H: Xof, G: Xof>(
     key.verify_mu(mu, signature)
 }
 
-/// The bytes of a public key of set 87.
+/// The bytes of a public key of ML-DSA-87.
 pub fn encoded_at_87<H: Xof, G: Xof>(key: ml_dsa_87::PublicKey<H, G>) -> [u8; ml_dsa_87::PK_LEN]
     ensures { result ≡ public_key_bytes key.rho key.t1 }
 {
@@ -173,7 +173,7 @@ pub fn signed_by<K: Signer>(key: &K, rnd: &[u8; 32], message: &[u8]) -> Result<K
     key.try_sign_with_seed(rnd, message, &[])
 }
 
-/// `signed_by` with a key of set 87.
+/// `signed_by` with a key of ML-DSA-87.
 pub fn signed_by_87<H: Xof, G: Xof>(
     key: &ml_dsa_87::PrivateKey<H, G>,
     rnd: &[u8; 32],
@@ -184,7 +184,7 @@ pub fn signed_by_87<H: Xof, G: Xof>(
     signed_by(key, rnd, message)
 }
 
-/// Makes a pair of set 87, signs with it and verifies.
+/// Makes a pair of ML-DSA-87, signs with it and verifies.
 pub fn checked_at_87<H: Xof, G: Xof>(xi: &[u8; 32], rnd: &[u8; 32]) -> Result<bool, Fault>
     ensures { IfOk result (λ verdict. IsTrue verdict) }
 {
@@ -192,7 +192,7 @@ pub fn checked_at_87<H: Xof, G: Xof>(xi: &[u8; 32], rnd: &[u8; 32]) -> Result<bo
 }
 
 /// Whether the public key that is derived of a consistent private key, of whatever origin, accepts what this signs: yes,
-/// wherever nothing is refused, by the clause `accepted` alone.
+/// wherever there is no error, by the clause `accepted` alone.
 pub fn accepts_what_it_signs<H: Xof, G: Xof>(
     sk: &ml_dsa_44::PrivateKey<H, G>,
     rnd: &[u8; 32],
@@ -270,7 +270,7 @@ pub fn accepts_hash_it_signs_prepared<H: Xof, R: CryptoRngCore>(
     Ok(pk.verify_mu(mu, &signature))
 }
 
-/// The hash that a public key of set 65 keeps; the parts of the key are in range, as those of each key.
+/// The hash that a public key of ML-DSA-65 keeps; the parts of the key are in range, as those of each key.
 pub fn hash_of_public<H: Xof, G: Xof>(key: &ml_dsa_65::PublicKey<H, G>) -> [u8; 64]
     ensures hash { result ≡ key.now.tr }
     ensures parts { ArePublicParts 6 key.now }
@@ -311,7 +311,8 @@ pub fn asked_of_dummy(rng: &mut DummyRng, out: &mut [u8]) -> Result<(), RngError
     rng.try_fill_bytes(out)
 }
 
-/// Signs under a context with any key that signs. Every key refuses a context of more than 255 bytes, and with this error.
+/// Signs under a context with any key that signs. Every key rejects a context of more than 255 bytes, and with this
+/// error.
 pub fn signed_under<K: Signer>(
     key: &K,
     rnd: &[u8; 32],

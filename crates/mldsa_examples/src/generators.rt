@@ -1,7 +1,7 @@
 //! Random bytes of the kit's sources and generators, as the library asks for them.
 //!
-//! A body that the contracts refuse: a `FromGenerator` whose generator is not asked. The kit states nothing of what a
-//! source gives, so of `FromSource` it is the tests that refuse this.
+//! A mutation that the contracts reject: a `FromGenerator` whose generator is not asked. The kit states nothing of what
+//! a source gives, so of `FromSource` it is the tests that reject this.
 #![tactic(auto)]
 
 ghost use Rattle.std.specs.Prelude.{◌≡◌, ⊤, ℕ, length};

@@ -1,7 +1,8 @@
-//! A key store: a file has a byte of the version, a byte of the set, and the bytes of a private or a public key.
+//! A key store: a file has a byte of the version, a byte of the parameter set, and the bytes of a private or a public
+//! key.
 //!
-//! Bodies that the contracts refuse: a header that is not looked at; a public key whose `tr` is not compared; any public
-//! key accepted; the set looked at before the version.
+//! Mutations that the contracts reject: a header that is not looked at; a public key whose `tr` is not compared; any
+//! public key accepted; the set looked at before the version.
 #![tactic(auto)]
 
 ghost use Rattle.std.specs.Prelude.{◌≡◌, ◌+◌, ◌∷◌, ◌↔◌, IsTrue};
@@ -18,7 +19,7 @@ pub const FILE_LEN: usize = 2562;
 /// The number of bytes of a public key's file.
 pub const PUBLIC_FILE_LEN: usize = 1314;
 
-/// Why a file is refused, in order of precedence.
+/// Why a file is rejected, in order of precedence.
 #[derive(Debug, Clone, Copy, PartialEq, Eq)]
 pub enum LoadFault {
     /// It does not have the number of bytes of its kind.

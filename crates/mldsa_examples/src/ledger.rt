@@ -1,7 +1,7 @@
 //! An append-only ledger: each entry signs the hash of the entry before it, and what is recorded.
 //!
-//! Bodies that the contracts refuse: the last entry is not checked; no link is checked; a link that leaves the signature
-//! out; a payload that is not signed; an appended entry without the hash of the last one.
+//! Mutations that the contracts reject: the last entry is not checked; no link is checked; a link that leaves the
+//! signature out; a payload that is not signed; an appended entry without the hash of the last one.
 #![tactic(auto)]
 
 ghost use Rattle.std.specs.Prelude.{◌≡◌, ◌≤◌, ◌↔◌, ◌++◌, length, Err, IsTrue, IfOk, IfErr};

@@ -1,6 +1,6 @@
 //! A licence checker: a token names a product, a last day and a customer, and is signed by the owner of a key.
 //!
-//! Bodies that the contracts refuse: `today < token.last_day`; a spelling without the customer.
+//! Mutations that the contracts reject: `today < token.last_day`; a spelling without the customer.
 #![tactic(auto)]
 
 ghost use Rattle.std.specs.Prelude.{◌≡◌, ◌≢◌, ◌↔◌, IsTrue};

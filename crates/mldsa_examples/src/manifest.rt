@@ -1,7 +1,7 @@
-//! A signed manifest: a list of files, each with its name, size and digest, signed as a whole, at any set.
+//! A signed manifest: a list of files, each with its name, size and digest, signed as a whole, at any parameter set.
 //!
-//! Bodies that the contracts refuse: a spelling without the size; an entry that has another size than its file; a file
-//! handed out though the signature is not accepted.
+//! Mutations that the contracts reject: a spelling without the size; an entry that has another size than its file; a
+//! file handed out though the signature is not accepted.
 #![tactic(auto)]
 
 ghost use Rattle.std.specs.Prelude.{◌≡◌, ◌++◌, ℕ, List, MatchOption};

@@ -26,8 +26,8 @@ fn verified(public_key: &[u8], message: &[u8], signature: &[u8]) -> Result<bool,
     MlDsa65::verify(public_key, &input, signature)
 }
 
-/// A stored key accepts what the other signed, and no other message; a key that is cut off is refused for its length, and
-/// bytes that are no private key for their range.
+/// A stored key accepts what the other signed, and no other message; a key that is cut off is rejected for its length,
+/// and bytes that are no private key for their range.
 #[test]
 fn a_stored_pair_over_bytes(rt: HostRuntime) -> Result<(), Fail> {
     let (public_key, private_key) = stored(&[7; 32])?;

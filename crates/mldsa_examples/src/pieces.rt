@@ -1,6 +1,6 @@
 //! A signature that is read from a file, and a message in two pieces, with no memory for the whole.
 //!
-//! Bodies that the contracts refuse: the pieces exchanged; another context length; random bytes that are not drawn.
+//! Mutations that the contracts reject: the pieces exchanged; another context length; random bytes that are not drawn.
 #![tactic(auto)]
 
 ghost use Rattle.std.specs.Prelude.{◌≡◌, ◌≢◌, ◌↔◌, ◌++◌, length, IsTrue, MatchOption};

@@ -12,7 +12,7 @@ use fips204::{Fault, ml_dsa_65, ml_dsa_87};
 use sha2::{Digest, Sha256};
 use std::test::Fail;
 
-/// The pairs of ML-DSA-44 over two streams.
+/// The pairs of ML-DSA-44 over two XOFs.
 type Keys = ml_dsa_44::KG<Sha256Ctr, Sha512Ctr>;
 
 /// The public key of such a pair.
@@ -82,7 +82,7 @@ fn three(
 }
 
 /// Signs a message with a stored key of any of the three sets, and verifies the signature under the public key
-/// derived from it. The signature of a whole key is accepted.
+/// derived from it. The signature of a consistent key is accepted.
 fn stands<K, const SK: usize, const SIG: usize>(
     key: [u8; SK],
     random: &[u8; 32],
@@ -100,7 +100,7 @@ where
 }
 
 /// Makes the pair of a seed at any of the three sets, keeps both keys as bytes, reads them back, signs with the one and
-/// verifies with the other. Keeping them adds no error, and the answer is never false.
+/// verifies with the other. Keeping them adds no error, and the result is never false.
 fn stands_when_stored<K, const PK: usize, const SK: usize, const SIG: usize>(
     seed: &[u8; 32],
     random: &[u8; 32],
@@ -184,7 +184,7 @@ fn three_messages(rt: HostRuntime) -> Result<(), Fail> {
     Ok(())
 }
 
-/// A key whose t0 has other bits in its first polynomial is not whole, and this signature of it is not accepted.
+/// A key whose t0 has other bits in its first polynomial is not consistent, and this signature of it is not accepted.
 #[test]
 fn a_key_that_is_not_whole(rt: HostRuntime) -> Result<(), Fail> {
     let mut key = private_bytes::<Keys>(&[7; 32])?;

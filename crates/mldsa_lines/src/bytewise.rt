@@ -10,7 +10,7 @@ use std::io::{self, BufRead, Read};
 /// A buffered reader that takes single bytes out of the buffer and reads longer pieces as the reader itself
 /// does. So a file is read a byte at a time without a system call for each, and from a pipe, where only
 /// single bytes are buffered, a longer piece comes in as few calls as the pipe allows. It tells none of its
-/// bytes, but what a call returns stands at the front of those that the reader tells.
+/// bytes, but what a call returns stands at the start of those that the reader tells.
 #[derive(Drop)]
 pub struct Bytewise<B> {
     pub reader: B,

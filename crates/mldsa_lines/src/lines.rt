@@ -163,7 +163,7 @@ fn read_line<I: Read>(
 }
 
 /// The bytes of a line, by what decoding its characters gave, or its fault, which is `Memory` only if memory for
-/// the bytes was refused.
+/// the bytes ran out.
 fn judge(
     number: usize,
     wanted: Option<usize>,

@@ -1,5 +1,5 @@
 -- What is read of a file is the key that it has, and what is written is read again.
-use Rattle.std.proofs.Common.{◌≡◌, ℕ, List, length, Bool, true, false, eqb, Result, Ok, Err, IfErr, refl, sym, ap, subst, ◌∙◌, arith}
+use Rattle.std.proofs.Common.{◌≡◌, ℕ, List, length, Bool, true, false, eqb, Some, Result, Ok, Err, IfErr, refl, sym, ap, subst, ◌∙◌, arith}
 use Rattle.std.proofs.lemmas.Bool.{eq-eqb, eqb-true}
 use Rattle.fips204.specs.Packing.{bit_length}
 use Rattle.fips204.specs.Sets.{named_set}
@@ -14,16 +14,17 @@ use Rattle.mlsign_files.specs.declared.pem.Kind.TheVariants.{Public, Private}
 use Rattle.mlsign_files.specs.declared.pem.LineEnd.TheVariants.{Lf}
 use Rattle.fips204_der.proofs.Elements.{ok_is}
 use Rattle.fips204_der.proofs.KeyFiles.{public_of_file, private_of_file}
-use Rattle.mlsign_files.proofs.LaxTexts.{strict_of_text}
+use Rattle.mlsign_files.proofs.LaxTexts.{strict_of_text, strict_is_lf}
 use Rattle.mlsign_files.proofs.PemFiles.{pem_of_text}
 use Rattle.mlsign_engine.specs.Commands.{FailsPrivate, IsSigned, Judges, FilesBelong, MadeFilesBelong}
-use Rattle.mlsign_engine.specs.Forms.{IsRaw, IsPublicIn, IsPrivateIn, HasPublic, HasPrivate, public_in, private_in}
+use Rattle.mlsign_engine.specs.Forms.{IsRaw, IsPublicIn, IsPrivateIn, read_as, HasPublic, HasPrivate, public_in, private_in, ConvertsPrivate}
 use Rattle.mlsign_engine.specs.InnerSteps.{HasNoKeysOrMemory}
 use Rattle.mlsign_engine.specs.Keys.{PublicValue, PairValue}
 use Rattle.mlsign_engine.specs.declared.fault.CommandFault.{CommandFault}
 use Rattle.mlsign_engine.specs.declared.fault.CommandFault.TheVariants.{Key, Inconsistent, Library, Context, Memory, Message, NoSeed, TwoParts}
 use Rattle.mlsign_engine.specs.declared.forms.Form.{Form}
 use Rattle.mlsign_engine.specs.declared.forms.Form.TheVariants.{Pem, Der, Raw}
+use Rattle.mlsign_engine.specs.declared.forms.Parts.TheVariants.{Kept}
 use Rattle.mlsign_engine.proofs.KeyPairs.{signed_valid}
 
 -- ---- the key of a file is what is read of it
@@ -111,3 +112,58 @@ made_files_belong form algorithm pair public seed private_file public_file rando
     let own : PairValue = record { algorithm = algorithm; parts = Seed seed; public = made.public_bytes; private = made.private_bytes } in
     files_belong form own public public_file random context message signature valid made.keys made.public_file read
     (subst (λ (x : SetName × FileParts). IsSigned (named_set x.0) x.1 random context message signature) same signs) judges
+
+-- ---- what is converted there and back is the same
+
+same_text : (kind : Kind) (one other der : List ℕ) → IsPem (strict_form kind one) kind der → IsPem (strict_form kind other) kind der
+    → strict_form kind one ≡ strict_form kind other
+same_text kind one other der first second = strict_is_lf kind one der first ∙ sym (strict_is_lf kind other der second)
+
+one_private_file : (form : Form) (algorithm : SetName) (one other : List ℕ) (parts : FileParts) → IsPrivateIn form (read_as form Private one) algorithm parts
+    → IsPrivateIn form (read_as form Private other) algorithm parts → read_as form Private one ≡ read_as form Private other
+one_private_file Pem algorithm one other parts first second =
+    same_text Private one other first.der first.spelled
+    (subst (λ (der : List ℕ). IsPem (strict_form Private other) Private der) (second.file.is ∙ sym first.file.is) second.spelled)
+one_private_file Der algorithm one other parts first second = first.is ∙ sym second.is
+one_private_file Raw algorithm one other (Seed seed) first second = first.1 ∙ sym second.1
+one_private_file Raw algorithm one other (Expanded expanded) first second = first.1 ∙ sym second.1
+one_private_file Raw algorithm one other (Both seed expanded) first second = absurd first.1
+
+one_public_file : (form : Form) (algorithm : SetName) (one other bytes : List ℕ) → IsPublicIn form (read_as form Public one) algorithm bytes
+    → IsPublicIn form (read_as form Public other) algorithm bytes → read_as form Public one ≡ read_as form Public other
+one_public_file Pem algorithm one other bytes first second =
+    same_text Public one other first.der first.spelled
+    (subst (λ (der : List ℕ). IsPem (strict_form Public other) Public der) (second.file.is ∙ sym first.file.is) second.spelled)
+one_public_file Der algorithm one other bytes first second = first.is ∙ sym second.is
+one_public_file Raw algorithm one other bytes first second = first.1 ∙ sym second.1
+
+some_is : {A : Type 0} (x y : A) → Some x ≡ Some y → x ≡ y
+some_is x y e = cc
+
+-- what is written of a key with the parts that it has, is its own
+kept_parts : (form : Form) (pair : PairValue) (file : List ℕ) → ConvertsPrivate form Kept pair file → IsPrivateIn form file pair.algorithm pair.parts
+kept_parts form pair file converts = subst (λ (parts : FileParts). IsPrivateIn form file pair.algorithm parts) (sym (some_is _ _ converts.are)) converts.has
+
+pub private_back : (form other : Form) (set : SetName) (first second : PairValue) (file between again : List ℕ)
+    → HasPrivate form set file first.algorithm first.parts → ConvertsPrivate other Kept first between
+    → HasPrivate other first.algorithm between second.algorithm second.parts → ConvertsPrivate form Kept second again
+    → read_as form Private again ≡ read_as form Private file
+private_back form other set first second file between again has there read back =
+    let same : (second.algorithm, second.parts) ≡ (first.algorithm, first.parts) =
+    ok_is _ _ (sym (reads_private other first.algorithm between (second.algorithm, second.parts) read)
+    ∙ reads_private other first.algorithm between (first.algorithm, first.parts) (private_again other first.algorithm between first.parts (kept_parts other first between there))) in
+    let written : IsPrivateIn form again first.algorithm first.parts =
+    subst (λ (x : SetName × FileParts). IsPrivateIn form again x.0 x.1) same (kept_parts form second again back) in
+    one_private_file form first.algorithm again file first.parts (private_again form first.algorithm again first.parts written).0 has.0
+
+pub public_back : (form other : Form) (set : SetName) (first second : PublicValue) (file between again : List ℕ)
+    → HasPublic form set file first.algorithm first.bytes → IsPublicIn other between first.algorithm first.bytes
+    → HasPublic other first.algorithm between second.algorithm second.bytes → IsPublicIn form again second.algorithm second.bytes
+    → read_as form Public again ≡ read_as form Public file
+public_back form other set first second file between again has there read back =
+    let same : (second.algorithm, second.bytes) ≡ (first.algorithm, first.bytes) =
+    ok_is _ _ (sym (reads_public other first.algorithm between (second.algorithm, second.bytes) read)
+    ∙ reads_public other first.algorithm between (first.algorithm, first.bytes) (public_again other first.algorithm between first.bytes there)) in
+    let written : IsPublicIn form again first.algorithm first.bytes =
+    subst (λ (x : SetName × List ℕ). IsPublicIn form again x.0 x.1) same back in
+    one_public_file form first.algorithm again file first.bytes (public_again form first.algorithm again first.bytes written).0 has.0

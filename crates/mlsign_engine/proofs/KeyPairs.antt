@@ -56,14 +56,14 @@ short_context : (message context : List ℕ) → length context ≤ 255 → inpu
 short_context message context short =
     let test : ltb 255 (length context) ≡ false = le-ltb _ _ short in rw test refl
 
--- an answer of the library is one
+-- a result of the library is one
 library_is : {A : Type 0} (x y : A) (r : Result A Fault) → r ≡ Ok x → r ≡ Ok y → x ≡ y
 library_is x y r first second = cc
 
 made_or_refused : {A : Type 0} (x : A) (fault : Fault) (r : Result A Fault) → r ≡ Ok x → r ≡ Err fault → ⊥
 made_or_refused x fault r made refused = cc
 
--- ---- what the calls over bytes answer, where arrays have their lengths
+-- ---- what the calls over bytes return, where arrays have their lengths
 
 pub sized : {X : Type 0} (Y : Type 0) (wanted : ℕ) (array : List ℕ) → length array ≡ wanted → MatchBool (nat_eq (length array) wanted) X Y → X
 sized {X} Y wanted array is told = subst (λ (b : Bool). MatchBool b X Y) (eq-eqb _ _ is) told
@@ -119,7 +119,7 @@ others_beside p seed expanded public private has differ = (
   λ fault refused. made_or_refused (has.pk, has.sk) fault _ has.keys.stands refused,
 )
 
--- the key of a seed is consistent, or refused
+-- the key of a seed is consistent, or an error
 pub generating_fails : (algorithm : SetName) (law : SignedIsAccepted) (seed : List ℕ) (fault : CommandFault)
     → HasNoKeysOrMemory (named_set algorithm) (Seed seed) fault → FailsToGenerate algorithm seed fault
 generating_fails algorithm law seed (Key fault) fails = fails

@@ -11,21 +11,23 @@ use Rattle.fips204.specs.declared.sets.SetName.{SetName}
 use Rattle.fips204_bytes.specs.declared.refusal.Refusal.{Refusal}
 use Rattle.fips204_bytes.specs.declared.refusal.Refusal.TheVariants as refusal
 use Rattle.fips204_shake.specs.Fronts.{shake256_front, shake128_front}
-use Rattle.mlsign_engine.specs.Forms.{IsPublicIn, IsPrivateIn, HasPublic, HasPrivate, public_in, private_in}
+use Rattle.mlsign_engine.specs.Forms.{IsPublicIn, IsPrivateIn, read_as, HasPublic, HasPrivate, public_in, private_in, ConvertsPrivate}
 use Rattle.mlsign_engine.specs.Keys.{PublicValue, PairValue, HasKeys, HasBytes, IsConsistent, public_of_pair}
 use Rattle.mlsign_engine.specs.Messages.{GivesAll, FailsToGive}
 use Rattle.mlsign_engine.specs.declared.fault.CommandFault.{CommandFault}
 use Rattle.mlsign_engine.specs.declared.fault.CommandFault.TheVariants.{Key, Inconsistent, Library, Context, Memory, Message}
 use Rattle.mlsign_engine.specs.declared.forms.Form.{Form}
 use Rattle.mlsign_engine.specs.declared.forms.Form.TheVariants.{Pem}
+use Rattle.mlsign_engine.specs.declared.forms.Parts.TheVariants.{Kept}
 use Rattle.mlsign_engine.specs.declared.keys.AnyKey.{AnyKey}
 use Rattle.mlsign_engine.specs.declared.keys.AnyKey.TheVariants as key
 use Rattle.fips204_der.specs.Keys.{PrivateParts as FileParts, Seed, Expanded, Both}
 use Rattle.mlsign_files.specs.PemReading.{FailsLike}
 use Rattle.mlsign_files.specs.declared.fault.FileFault.{FileFault}
 use Rattle.mlsign_files.specs.declared.fault.FileFault.TheVariants.{OtherKind}
+use Rattle.mlsign_files.specs.declared.pem.Kind.TheVariants.{Public, Private}
 
--- an error of the calls over bytes as a fault; a wrong length is that of a key which belongs to no set
+-- an error of the calls over bytes as a fault; a wrong length is that of a key which belongs to no parameter set
 abbrev pub fault_of : Refusal → CommandFault
 fault_of (refusal.Library fault) = Library fault
 fault_of (refusal.Length which) = Inconsistent
@@ -44,14 +46,16 @@ IsValidUnder p key signature context message = (pk : PublicParts) × IsPublicKey
 pub record Judges (public : PublicValue) (signature context message : List ℕ) (valid : Bool) : Type 0 where
   pub answer : IsTrue valid ↔ IsValidUnder (named_set public.algorithm) public.bytes signature context message
 
--- the library refuses to make the keys of a private key in a file: those of its seed, or the public key of the expanded one
+-- the library's error in making the keys of a private key in a file: those of its seed, or the public key of the
+-- expanded one
 abbrev pub IsRefused : ParameterSet → FileParts → Fault → Type 0
 IsRefused p (Seed seed) fault = generated p shake256_front shake128_front seed ≡ Err fault
 IsRefused p (Expanded expanded) fault =
     (sk : PrivateParts) × IsPrivateKeyOf p.eta p.k p.l expanded sk × (derived p shake128_front sk ≡ Err fault)
 IsRefused p (Both seed expanded) fault = generated p shake256_front shake128_front seed ≡ Err fault
 
--- why a private key in a file has no keys: none belong to it, though the library refuses none, or the library's error
+-- why a private key in a file has no keys: none belong to it, though the library returns no error, or the library's
+-- error
 abbrev pub HasNoKeys : ParameterSet → FileParts → CommandFault → Type 0
 HasNoKeys p parts Inconsistent = ((pk : PublicParts) (sk : PrivateParts) → ¬ (HasKeys p parts pk sk)) × ((fault : Fault) → ¬ (IsRefused p parts fault))
 HasNoKeys p parts (Library fault) = IsRefused p parts fault
@@ -96,13 +100,13 @@ pub record IsSigned (p : ParameterSet) (parts : FileParts) (random context messa
   pub signed : sign_input p shake256_front shake128_front sk random (plain message context) ≡ Ok signature
   pub accepted : IsValid p pk signature context message
 
--- the library refuses to sign the message with the private key
+-- the library's error in signing the message with the private key
 abbrev pub CannotSign : ParameterSet → FileParts → List ℕ → List ℕ → List ℕ → Fault → Type 0
 CannotSign p parts random context message fault = (pk : PublicParts) × (sk : PrivateParts) × HasKeys p parts pk sk
     × (sign_input p shake256_front shake128_front sk random (plain message context) ≡ Err fault)
 
--- why `sign` has no signature: the context is too long; the message was not read, or the library refuses to sign it; memory may run out
--- of itself
+-- why `sign` has no signature: the context is too long; the message was not read, or the library returned an error;
+-- memory may run out of itself
 abbrev pub FailsToSign : {S : Type 0} → (S → Option ℕ → List ℕ → S → Type 0) → (S → Option (List ℕ)) → S → S → PairValue → List ℕ → List ℕ → CommandFault → Type 0
 FailsToSign gives remaining old new pair random context Context = 255 < length context
 FailsToSign gives remaining old new pair random context Message = FailsToGive gives old new
@@ -152,3 +156,15 @@ MadeFilesBelong =
     → MakesTexts form algorithm seed private_file public_file
     → HasPrivate form algorithm private_file pair.algorithm pair.parts → HasPublic form algorithm public_file public.algorithm public.bytes
     → IsSigned (named_set pair.algorithm) pair.parts random context message signature → Judges public signature context message valid → IsTrue valid
+
+-- a file that is converted to another form, and what was written of it to the first form again, with the parts that it has, is the same file:
+-- its bytes, and of a text the strict form of both; raw bytes are read at the key's set
+pub record ComeBack : Type 0 where
+  pub private : (form other : Form) (set : SetName) (first second : PairValue) (file between again : List ℕ)
+      → HasPrivate form set file first.algorithm first.parts → ConvertsPrivate other Kept first between
+      → HasPrivate other first.algorithm between second.algorithm second.parts → ConvertsPrivate form Kept second again
+      → read_as form Private again ≡ read_as form Private file
+  pub public : (form other : Form) (set : SetName) (first second : PublicValue) (file between again : List ℕ)
+      → HasPublic form set file first.algorithm first.bytes → IsPublicIn other between first.algorithm first.bytes
+      → HasPublic other first.algorithm between second.algorithm second.bytes → IsPublicIn form again second.algorithm second.bytes
+      → read_as form Public again ≡ read_as form Public file

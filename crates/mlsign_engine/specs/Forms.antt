@@ -58,7 +58,7 @@ read_as Pem kind file = strict_form kind file
 read_as Der kind file = file
 read_as Raw kind file = file
 
--- the set of a key in raw bytes is named beside them
+-- the parameter set of a key in raw bytes is named beside them
 abbrev pub IsAt : Form → SetName → SetName → Type 0
 IsAt Pem set algorithm = Unit {0}
 IsAt Der set algorithm = Unit {0}

@@ -12,7 +12,7 @@ use Rattle.mlsign_engine.specs.declared.keys.Held.{Held}
 use Rattle.mlsign_engine.specs.declared.keys.Held.TheVariants as held
 use Rattle.fips204_der.specs.Keys.{PrivateParts as FileParts, Seed, Expanded, Both, HasPrivateSizes}
 
--- a public key: its set and its bytes
+-- a public key: its parameter set and its bytes
 pub record PublicValue : Type 0 where
   pub algorithm : SetName
   pub bytes : List ℕ

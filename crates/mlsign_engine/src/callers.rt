@@ -7,14 +7,17 @@ ghost use Rattle.fips204.specs.declared.sets.SetName.{SetName as Name};
 ghost use Rattle.fips204_der.specs.Keys.{IsPrivateFile, IsPublicFile, PrivateParts, private_parts};
 ghost use Rattle.fips204_der.specs.Reading.{Gives};
 ghost use Rattle.mlsign_engine.specs.Commands.{IsSigned, Judges, MakesTexts};
-ghost use Rattle.mlsign_engine.specs.Forms.{HasPrivate, HasPublic, IsPublicIn, public_in, private_in};
+ghost use Rattle.mlsign_engine.specs.Forms.{HasPrivate, HasPublic, IsPublicIn, public_in, private_in, read_as};
 ghost use Rattle.mlsign_engine.specs.Keys.{IsConsistent, PairValue, PublicValue, public_of_pair};
 ghost use Rattle.mlsign_engine.specs.declared.forms.Form.{Form};
 ghost use Rattle.mlsign_files.specs.Pem.{IsPem, pem};
 ghost use Rattle.mlsign_files.specs.PemReading.{GivesOrFails};
+ghost use Rattle.mlsign_files.specs.declared.pem.Kind.TheVariants.{Public, Private};
 ghost use Rattle.mlsign_files.specs.declared.pem.LineEnd.TheVariants.{Lf};
 
-use crate::laws::{keys_are_read, signed_is_valid};
+use crate::fault::CommandFault;
+use crate::forms::{Form, Parts, read_private_key, read_public_key};
+use crate::laws::{converted_comes_back, keys_are_read, signed_is_valid};
 use fips204_der::{DerFault, PrivateKey, SetName, read_private, read_public};
 use mlsign_files::pem::{self, Kind};
 use mlsign_files::{FileFault, strict_form};
@@ -72,4 +75,38 @@ pub(crate) fn strict(alloc: Global, kind: Kind, text: &[u8]) -> Result<Vec<u8>, 
     ensures { (der : List ℕ) → IsPem text.now kind der → IfOk result (λ out. out.items ≡ pem kind Lf der) }
 {
     strict_form(alloc, kind, text)
+}
+
+/// The file of a private key, converted to another form and back.
+pub(crate) fn private_back(
+    alloc: Global,
+    form: Form,
+    other: Form,
+    set: SetName,
+    file: &[u8],
+) -> Result<Vec<u8>, CommandFault>
+    ensures { IfOk result (λ again. read_as form Private again.items ≡ read_as form Private file.now) }
+{
+    converted_comes_back();
+    let first = read_private_key(alloc, form, set, file)?;
+    let between = first.file(alloc, other, Parts::Kept)?;
+    let second = read_private_key(alloc, other, first.algorithm(), between.as_slice())?;
+    second.file(alloc, form, Parts::Kept)
+}
+
+/// And that of a public key.
+pub(crate) fn public_back(
+    alloc: Global,
+    form: Form,
+    other: Form,
+    set: SetName,
+    file: &[u8],
+) -> Result<Vec<u8>, CommandFault>
+    ensures { IfOk result (λ again. read_as form Public again.items ≡ read_as form Public file.now) }
+{
+    converted_comes_back();
+    let first = read_public_key(alloc, form, set, file)?;
+    let between = first.file(alloc, other)?;
+    let second = read_public_key(alloc, other, first.algorithm(), between.as_slice())?;
+    second.file(alloc, form)
 }

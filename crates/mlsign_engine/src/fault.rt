@@ -17,7 +17,7 @@ pub enum CommandFault {
     #[error("{0}")]
     Key(FileFault),
     /// A private key's parts do not belong together: its seed gives another expanded key, or an expanded key is no key, or not
-    /// whole, or has another hash of its public key.
+    /// consistent, or has another hash of its public key.
     #[error("the private key is not consistent")]
     Inconsistent,
     /// The library could not make or use the key.
@@ -54,7 +54,7 @@ impl From<Refusal> for CommandFault {
     fn from(refusal: Refusal) -> CommandFault {
         match refusal {
             Refusal::Library(fault) => CommandFault::Library(fault),
-            // No key here has another length than its set's.
+            // No key here has another length than its parameter set's.
             Refusal::Length(_) => CommandFault::Inconsistent,
             // No call here takes a prepared key.
             Refusal::NotPrepared => CommandFault::Inconsistent,

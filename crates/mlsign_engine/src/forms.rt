@@ -48,7 +48,8 @@ pub enum Parts {
 
 /// The public key that a file has in this form. A text is read in the lax form of RFC 7468 (`strict_form`). The set is that of raw bytes.
 ///
-/// Errors: the file's first, or `Memory`. Of raw bytes that is `Der(KeyLength)`, if they are not as many as a key of the set has.
+/// Errors: the file's first, or `Memory`. Of raw bytes that is `Der(KeyLength)`, if they are not as many as a key of
+/// the parameter set has.
 pub fn read_public_key(
     alloc: Global,
     form: Form,

@@ -3,7 +3,7 @@
 
 ghost use Rattle.std.specs.Prelude.{◌≡◌, ℕ, List, Ok};
 ghost use Rattle.fips204.specs.declared.sets.SetName.{SetName};
-ghost use Rattle.mlsign_engine.specs.Commands.{SignedIsValid, FilesBelong, MadeFilesBelong};
+ghost use Rattle.mlsign_engine.specs.Commands.{SignedIsValid, FilesBelong, MadeFilesBelong, ComeBack};
 ghost use Rattle.mlsign_engine.specs.Forms.{HasPublic, HasPrivate, public_in, private_in};
 ghost use Rattle.mlsign_engine.specs.declared.forms.Form.{Form};
 ghost use Rattle.fips204_der.specs.Keys.{PrivateParts};
@@ -22,4 +22,9 @@ pub fn signed_is_valid()
     ensures signed { SignedIsValid }
     ensures published { FilesBelong }
     ensures generated { MadeFilesBelong }
+{}
+
+/// A key's file that is converted to another form and back is the same: its bytes, and of a text the strict form.
+pub fn converted_comes_back()
+    ensures { ComeBack }
 {}

@@ -16,7 +16,7 @@ pub trait Source {
     // A call of it may return this, fill the room so, and leave it so.
     ghost gives: { Self → Option ℕ → List ℕ → Self → Type 0 };
 
-    /// Puts the next bytes at the front of the room, and returns how many: none at the end, or if there is no room.
+    /// Puts the next bytes at the start of the room, and returns how many: none at the end, or if there is no room.
     /// Returns `None` if it fails.
     fn give(&mut self, room: &mut [u8]) -> Option<usize>
         ensures call { gives self.old result room.new self.new }

@@ -1,7 +1,7 @@
 -- A text in the strict form stays as it is, but that its lines end in LF.
-use Rattle.std.proofs.Common.{◌≡◌, ℕ, not, List, [], ◌∷◌, ◌++◌, length, take, drop, refl, sym, ap, ◌∙◌, append_assoc}
+use Rattle.std.proofs.Common.{◌≡◌, ℕ, Bool, true, false, cond, eqb, not, List, [], ◌∷◌, ◌++◌, length, get_or, take, drop, refl, sym, ap, ◌∙◌, append_assoc}
 use Rattle.std.specs.List.{position_or_len, filter, AllPass}
-use Rattle.std.proofs.lemmas.List.{take_at, drop_at}
+use Rattle.std.proofs.lemmas.List.{append_cancel_left, take_at, drop_at}
 use Rattle.std.proofs.lemmas.List.Elements.{filter-append, All-append}
 use Rattle.base64.specs.GeneralPurpose.{encode_of}
 use Rattle.base64.specs.Engines.{standard}
@@ -10,7 +10,7 @@ use Rattle.mlsign_files.specs.declared.pem.Kind.TheVariants.{Public, Private}
 use Rattle.mlsign_files.specs.declared.pem.LineEnd.{LineEnd}
 use Rattle.mlsign_files.specs.declared.pem.LineEnd.TheVariants.{Lf, CrLf}
 use Rattle.mlsign_files.specs.Pem.{begin_line, end_line, line_end, wrapped, closing, pem, IsPem}
-use Rattle.mlsign_files.specs.PemReading.{is_dash}
+use Rattle.mlsign_files.specs.PemReading.{begins, is_dash}
 use Rattle.mlsign_files.specs.Lax.{beginning, from_first, is_black, strict_closing, rewrapped, strict_form}
 use Rattle.mlsign_files.proofs.PemFiles.{begun_again, no_dash_in_ending}
 use Rattle.mlsign_files.proofs.Texts.{passes, wrapped_kept, wrapped_pass, encoded_passes, first_place}
@@ -77,3 +77,40 @@ strict_again kind ending der =
 
 pub strict_of_text : (kind : Kind) (text der : List ℕ) → IsPem text kind der → strict_form kind text ≡ pem kind Lf der
 strict_of_text kind text der is = ap (strict_form kind) is.is ∙ strict_again kind is.ending der
+
+-- ---- the lines of a text in the strict form end in LF
+
+abbrev behind : LineEnd → Kind → List ℕ → List ℕ
+behind ending kind der = line_end ending ++ (wrapped (line_end ending) (encode_of standard der) ++ closing kind ending)
+
+begins_so : (kind : Kind) (ending : LineEnd) (der text : List ℕ) → text ≡ pem kind ending der → begins (begin_line kind) text ≡ true
+unfolding pem
+begins_so kind ending der text is = ap (begins (begin_line kind)) is ∙ begun_again (begin_line kind) (behind ending kind der)
+
+begun_so : (kind : Kind) (ending : LineEnd) (der text : List ℕ) → text ≡ pem kind ending der → begins (begin_line kind) (from_first beginning text) ≡ true
+unfolding pem
+begun_so kind ending der text is =
+    ap (λ (z : List ℕ). begins (begin_line kind) (from_first beginning z)) is
+    ∙ ap (begins (begin_line kind)) (from_beginning kind (behind ending kind der)) ∙ begun_again (begin_line kind) (behind ending kind der)
+
+other_ends : (one other : List ℕ) → line_end Lf ++ one ≡ line_end CrLf ++ other → ⊥
+other_ends one other same = let told : true ≡ false = ap (λ (z : List ℕ). eqb (get_or z 0 0) 10) same in absurd cc
+
+no_crlf : (kind : Kind) (text der : List ℕ) → strict_form kind text ≡ pem kind CrLf der → ⊥
+unfolding strict_form rewrapped pem
+no_crlf kind text der same = case_of (begins (begin_line kind) begun) (eqb (length begun) 0) refl same
+  where
+    begun : List ℕ
+    begun = from_first beginning text
+
+    case_of : (b empty : Bool) → begins (begin_line kind) begun ≡ b → cond b (rewrapped kind begun) (cond empty text begun) ≡ pem kind CrLf der → ⊥
+    case_of true empty is same = other_ends _ _ (append_cancel_left (begin_line kind) _ _ same)
+    case_of false true other same = let yes = begun_so kind CrLf der text same in absurd cc
+    case_of false false other same = let yes = begins_so kind CrLf der begun same in absurd cc
+
+pub strict_is_lf : (kind : Kind) (text der : List ℕ) → IsPem (strict_form kind text) kind der → strict_form kind text ≡ pem kind Lf der
+strict_is_lf kind text der is = case_of is.ending is.is
+  where
+    case_of : (ending : LineEnd) → strict_form kind text ≡ pem kind ending der → strict_form kind text ≡ pem kind Lf der
+    case_of Lf same = same
+    case_of CrLf same = absurd (no_crlf kind text der same)

@@ -1,14 +1,16 @@
 -- The lines of a text, and the text that they have.
 use Rattle.std.proofs.Common.{◌≡◌, ℕ, zero, suc, ◌+◌, ◌*◌, ◌/◌, ◌%◌, ◌<◌, ◌≤◌, Bool, true, false, cond, eqb, ltb, Some, None, not, List, [], ◌∷◌, ◌++◌, length, take, drop, get_or, min, inl, inr, refl, sym, ap, ◌∙◌, append_assoc, arith}
 use Rattle.std.specs.List.{AllPass, position, position_or_len, list_all, filter}
+use Rattle.std.specs.Str.{bytes_eq}
 use Rattle.std.proofs.lemmas.List.Elements.{filter-append, All-head, All-tail, All-nil, All-append, All-take, All-drop, All-replicate, All-from_recursion}
 use Rattle.base64.specs.Rfc4648.{encode_symbols, encode_one, encode_two, encode_group, padding_len}
 use Rattle.base64.specs.GeneralPurpose.{encode_of}
 use Rattle.base64.specs.Engines.{standard}
 use Rattle.std.proofs.lemmas.List.Sums.{AllPass-from_list_all, prefix_len-le-length}
-use Rattle.std.proofs.lemmas.Bool.{cases_lt, eqb-true}
+use Rattle.std.proofs.lemmas.Bool.{cases_lt, eq-eqb, eqb-true}
 use Rattle.std.proofs.lemmas.Bool.Decides.{nat_tests}
-use Rattle.std.proofs.lemmas.List.{get_or_past, take_min, drop_min, take-append-drop, length-drop, append-nil, nil_from_length}
+use Rattle.std.proofs.lemmas.List.{get_or_past, take_at, take_min, drop_min, take-append-drop, length-drop, append-nil, nil_from_length}
+use Rattle.std.proofs.lemmas.Slice.Eq.{bytes_eq-Decides}
 use Rattle.mlsign_files.specs.Pem.{lines, wrapped}
 
 -- an empty text has no line
@@ -23,21 +25,57 @@ wrapped_some ending text some =
     let count : (length text + 63) / 64 ≡ suc ((length (drop 64 text) + 63) / 64) = omega (arith, length-drop 64 text) in
     rw count refl
 
--- what is written and what is still to be written, after one more line: of all the characters that there are, or of 64
+-- its first line, of all the characters that there are, or of 64
+pub first_line : (ending text line after : List ℕ) (k : ℕ) → eqb (length text) 0 ≡ false → k ≡ min 64 (length text) → line ≡ take k text → after ≡ drop k text
+    → wrapped ending text ≡ line ++ (ending ++ wrapped ending after)
+first_line ending text line after k not_empty is first left =
+    let some : 0 < length text = grind (arith, nat_tests) in
+    let front : line ≡ take 64 text = rw (first, is, take_min 64 text) refl in
+    let back : after ≡ drop 64 text = rw (left, is, drop_min 64 text) refl in
+    rw (front, back) (wrapped_some ending text some)
+
+-- what is written and what is still to be written, after one more line
 pub line_written : (out ending text after total written : List ℕ) (k : ℕ) → eqb (length text) 0 ≡ false → k ≡ min 64 (length text) → after ≡ drop k text
     → written ≡ (out ++ take k text) ++ ending → out ++ wrapped ending text ≡ total → written ++ wrapped ending after ≡ total
 line_written out ending text after total written k not_empty is left added so_far =
-    let some : 0 < length text = grind (arith, nat_tests) in
-    let front : take k text ≡ take 64 text = rw (is, take_min 64 text) refl in
-    let back : drop k text ≡ drop 64 text = rw (is, drop_min 64 text) refl in
-    let one : out ++ wrapped ending text ≡ out ++ (take 64 text ++ (ending ++ wrapped ending (drop 64 text))) =
-    ap (λ (z : List ℕ). out ++ z) (wrapped_some ending text some) in
-    rw (added, left, front, back, append_assoc (out ++ take 64 text) ending (wrapped ending (drop 64 text)), append_assoc out (take 64 text) (ending ++ wrapped ending (drop 64 text)))
+    let one : out ++ wrapped ending text ≡ out ++ (take k text ++ (ending ++ wrapped ending after)) =
+    ap (λ (z : List ℕ). out ++ z) (first_line ending text (take k text) after k not_empty is refl left) in
+    rw (added, append_assoc (out ++ take k text) ending (wrapped ending after), append_assoc out (take k text) (ending ++ wrapped ending after))
     (sym one ∙ so_far)
 
 pub all_written : (out ending text total : List ℕ) → eqb (length text) 0 ≡ true → out ++ wrapped ending text ≡ total → out ≡ total
 all_written out ending text total empty so_far =
     sym (append-nil out) ∙ sym (ap (λ (z : List ℕ). out ++ z) (wrapped_none ending text (eqb-true _ _ empty))) ∙ so_far
+
+-- ---- two texts compared
+
+same_behind : (front one other : List ℕ) → bytes_eq (front ++ one) (front ++ other) ≡ bytes_eq one other
+same_behind [] one other = refl
+same_behind (x ∷ front) one other = rw (eq-eqb x x refl) (same_behind front one other)
+
+-- behind what both begin with
+pub front_stripped : (front one text : List ℕ) → bytes_eq (take (length front) text) front ≡ true → bytes_eq (front ++ one) text ≡ bytes_eq one (drop (length front) text)
+front_stripped front one text begins =
+    let is : text ≡ front ++ drop (length front) text =
+    sym (take-append-drop (length front) text) ∙ ap (λ (z : List ℕ). z ++ drop (length front) text) ((bytes_eq-Decides (take (length front) text) front).0 begins) in
+    ap (bytes_eq (front ++ one)) is ∙ same_behind front one (drop (length front) text)
+
+-- where one does not begin as the other
+pub other_front : (front one text : List ℕ) → bytes_eq (take (length front) text) front ≡ false → bytes_eq (front ++ one) text ≡ false
+other_front front one text differs = decided (bytes_eq (front ++ one) text) (λ yes.
+    let begins : take (length front) text ≡ front = ap (take (length front)) (sym ((bytes_eq-Decides (front ++ one) text).0 yes)) ∙ take_at front one (length front) refl in
+    let no : bytes_eq (take (length front) text) front ≡ true = (bytes_eq-Decides (take (length front) text) front).1 begins in cc)
+  where
+    decided : (b : Bool) → ¬ (b ≡ true) → b ≡ false
+    decided true never = absurd (never refl)
+    decided false never = refl
+
+-- nothing is the same as an empty text
+pub none_left : (text : List ℕ) → bytes_eq [] text ≡ eqb (length text) 0
+none_left [] = refl
+none_left (x ∷ text) = grind (arith, nat_tests)
+
+-- ---- places
 
 -- a place that is not found is the end
 pub past_all : (p : ℕ → Bool) (xs : List ℕ) → position p xs ≡ None → position_or_len p xs ≡ length xs

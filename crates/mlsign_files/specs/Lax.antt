@@ -1,4 +1,5 @@
 -- The text of a key as others write it: PEM in the lax form of RFC 7468 (section 3, figure 2), with text around it (section 2).
+-- Of that figure VT is not white space here, and the padding of base64 has to be there.
 use Rattle.std.specs.Prelude.{ℕ, ◌==◌, Bool, not, List, [], ◌∷◌, ◌++◌, length, take, drop, if◌then◌else◌, codes}
 use Rattle.std.specs.Char.{is_ascii_whitespace}
 use Rattle.std.specs.List.{position_or_len, filter}

@@ -3,6 +3,7 @@
 
 ghost use Rattle.std.specs.Prelude.{◌≡◌, ◌≤◌, ◌++◌, ◌∷◌, ◌<◌, ℕ, List, [], length, Ok, IfOk, OnOk};
 ghost use Rattle.std.specs.List.{position, position_or_len};
+ghost use Rattle.std.specs.Str.{bytes_eq};
 ghost use Rattle.base64.specs.GeneralPurpose.{encode_of, decode_of, IsBytes};
 ghost use Rattle.base64.specs.Engines.{standard};
 ghost use Rattle.mlsign_files.specs.Pem.{begin_line, end_line, line_end, wrapped, closing, pem, IsPem};
@@ -160,6 +161,26 @@ pub(crate) fn put_wrapped(out: &mut Vec<u8>, ending: &[u8], text: &[u8]) -> Resu
     Ok(())
 }
 
+/// Whether a text is these symbols in lines that end so.
+fn is_wrapped(ending: &[u8], symbols: &[u8], text: &[u8]) -> bool
+    ensures { result ≡ bytes_eq (wrapped ending.now symbols.now) text.now }
+{
+    let mut left = symbols;
+    let mut rest = text;
+    while !left.is_empty() {
+        let (line, after) = left.split_at(LINE.min(left.len()));
+        let Some(behind) = rest.strip_prefix(line) else {
+            return false;
+        };
+        let Some(next) = behind.strip_prefix(ending) else {
+            return false;
+        };
+        left = after;
+        rest = next;
+    }
+    rest.is_empty()
+}
+
 /// The characters of lines that end so.
 #[tactic(auto, unfolding(crate::specs::PemReading::unwrapped_at))]
 fn unwrapped(alloc: Global, ending: &[u8], text: &[u8]) -> Result<Vec<u8>, FileFault>
@@ -170,9 +191,7 @@ fn unwrapped(alloc: Global, ending: &[u8], text: &[u8]) -> Result<Vec<u8>, FileF
         .copied()
         .filter(|byte| *byte != b'\n' && *byte != b'\r')
         .collect(alloc)?;
-    let mut again = Vec::new(alloc);
-    put_wrapped(&mut again, ending, symbols.as_slice())?;
-    if again.as_slice() != text {
+    if !is_wrapped(ending, symbols.as_slice(), text) {
         return Err(FileFault::Text);
     }
     Ok(symbols)

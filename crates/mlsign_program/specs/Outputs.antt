@@ -32,7 +32,7 @@ LacksFlag words name = one_text (found_of words) name ≡ Some (codes "false")
 abbrev pub context_of : ArgMatches → List ℕ
 context_of words = unwrap_or (first_value (found_of words) (codes "context")) []
 
--- the word for a set
+-- the word for a parameter set
 abbrev pub set_word : SetName → List ℕ
 set_word MlDsa44 = codes "44"
 set_word MlDsa65 = codes "65"
@@ -50,7 +50,8 @@ IsPartsWord words part.Kept = first_value (found_of words) (codes "parts") ≡ N
 IsPartsWord words part.Seed = HasWord words (codes "parts") (codes "seed")
 IsPartsWord words part.Expanded = HasWord words (codes "parts") (codes "expanded")
 
--- these are the files of the keys of a seed at the set that a call says, in DER with its flag, and in PEM without
+-- these are the files of the keys of a seed at the parameter set that a call says, in DER with its flag, and in PEM
+-- without
 pub record GeneratesAt (words : ArgMatches) (seed private public : List ℕ) : Type 0 where
   pub form : Form
   pub algorithm : SetName

@@ -15,7 +15,7 @@ use crate::files::{STANDARD, metadata, note_read};
 use crate::keyfile::{KeyFile, form, form_of, set_of, word};
 use crate::places::{Content, FileId, Output, Target, write_pair};
 use crate::progress::Progress;
-use crate::text::printable;
+use crate::text::{about, printable};
 use anyhow::{Context, Error, bail};
 use base64::engine::general_purpose::STANDARD_NO_PAD;
 use clap::ArgMatches;
@@ -54,7 +54,7 @@ fn target<'a>(words: &ArgMatches<'a>, name: &str, content: Content) -> Result<Ta
     })
 }
 
-/// Makes a pair of keys and writes both files, or neither.
+/// Makes a pair of keys and writes both files; after an error neither.
 pub(crate) fn keygen(rt: &HostRuntime, words: &ArgMatches<'_>) -> Result<(), Error> {
     let private = target(words, "private", Content::PrivateKey)?;
     let public = target(words, "public", Content::PublicKey)?;
@@ -62,13 +62,16 @@ pub(crate) fn keygen(rt: &HostRuntime, words: &ArgMatches<'_>) -> Result<(), Err
     let public = Output::find(rt, public, &[])?;
     if private.is_same(&public) {
         let path = word(words, "private")?;
-        bail!("{path}: the private and the public key cannot have the same file");
+        return Err(about(
+            path,
+            "the private and the public key cannot have the same file",
+        ));
     }
     let keys = make_keys(rt.alloc(), words, &random(rt)?)?;
     write_pair(rt, &public, &private, &keys)
 }
 
-/// Makes the pair of keys of this seed at the set that the words say.
+/// Makes the pair of keys of this seed at the parameter set that the words say.
 fn make_keys(alloc: Global, words: &ArgMatches<'_>, seed: &[u8; 32]) -> Result<KeyFiles, Error>
     ensures { IfOk result (λ keys. GeneratesAt words.now seed.now keys.private.items keys.public.items) }
 {
@@ -107,7 +110,7 @@ pub(crate) fn open<'a>(
     let file = File::open(rt, path).context(path)?;
     let found = file.metadata().context(path)?;
     if found.is_dir() {
-        bail!("{path}: it is a directory");
+        return Err(about(path, "it is a directory"));
     }
     let size = found.is_file().then_some(found.len());
     Ok(Progress::new(rt, Either::Left(file), shows, size))
@@ -122,7 +125,10 @@ pub(crate) fn check_apart(rt: &HostRuntime, one: &str, other: &str) -> Result<()
         return Ok(());
     };
     if !first.is_file() && FileId::of(&first) == FileId::of(&second) {
-        bail!("{one}: it is {other} too, and can be only one of the files");
+        return Err(about(
+            one,
+            format_args!("it is {other} too, and can be only one of the files"),
+        ));
     }
     Ok(())
 }
@@ -166,7 +172,7 @@ pub(crate) fn sign(rt: &HostRuntime, words: &ArgMatches<'_>) -> Result<(), Error
     let ids = ids.as_slice();
     for id in ids_of(rt, &[private])? {
         if ids.contains(&id) {
-            bail!("{private}: it is the message too, and a key is none");
+            return Err(about(private, "it is the message too, and a key is none"));
         }
     }
     for message in messages {
@@ -339,7 +345,7 @@ pub(crate) fn fingerprint_of(alloc: Global, key: &PublicKey) -> Result<String, C
     Ok(text)
 }
 
-/// The name of a set.
+/// The name of a parameter set.
 pub(crate) fn name_of(algorithm: SetName) -> &'static str {
     match algorithm {
         SetName::MlDsa44 => "ML-DSA-44",

@@ -1,8 +1,8 @@
 //! Files that are read.
 #![tactic(auto)]
 
-use crate::text::note;
-use anyhow::{Context, Error, bail};
+use crate::text::{about, note};
+use anyhow::{Context, Error};
 use std::fs::{self, File, Metadata, OpenFile};
 use std::io::{self, Read};
 use std::os::unix::fs::MetadataExt;
@@ -14,7 +14,7 @@ const LONGEST: usize = 16384;
 pub(crate) fn read_key(rt: &HostRuntime, path: &str) -> Result<Vec<u8>, Error> {
     let text = read_start(rt, path)?;
     if text.len() > LONGEST {
-        bail!("{path}: it is too long for a key");
+        return Err(about(path, "it is too long for a key"));
     }
     Ok(text)
 }

@@ -70,6 +70,7 @@ fn raw_set(words: &ArgMatches<'_>, size: usize) -> Result<SetName, Error> {
         1312 | 2560 => Ok(SetName::MlDsa44),
         1952 | 4032 => Ok(SetName::MlDsa65),
         2592 | 4896 => Ok(SetName::MlDsa87),
+        0 => bail!("it is empty"),
         SEED_LENGTH => bail!("a seed belongs to every set: --set has to say which"),
         _ => bail!("no key has so many bytes"),
     }

@@ -13,8 +13,8 @@ ghost use Rattle.mlsign_program.specs.Outputs.{Holds};
 
 use crate::files::{note_open, read_start};
 use crate::labels::{has_private_label, is_other_private_key};
-use crate::text::note;
-use anyhow::{Context, Error, bail};
+use crate::text::{about, note};
+use anyhow::{Context, Error};
 use fips204_der::read_private;
 use mlsign_engine::KeyFiles;
 use mlsign_files::kind_of_text;
@@ -415,14 +415,14 @@ impl Target<'_> {
             Ok(found) => found,
             Err(error) if error.kind() == ErrorKind::NotFound => {
                 if fs::symlink_metadata(rt, path).is_ok() {
-                    bail!("{path}: it is a link to a file that is not there");
+                    return Err(about(path, "it is a link to a file that is not there"));
                 }
                 return Ok(Place::Free);
             }
             Err(error) => return Err(error).context(path),
         };
         if found.is_dir() {
-            bail!("{path}: it is a directory");
+            return Err(about(path, "it is a directory"));
         }
         if !found.is_file() {
             self.check_stream(rt, &found)?;
@@ -444,7 +444,10 @@ impl Target<'_> {
             return Ok(());
         }
         if !self.force {
-            bail!("{path}: it is no file, and only --force writes a private key to it");
+            return Err(about(
+                path,
+                "it is no file, and only --force writes a private key to it",
+            ));
         }
         if is_pipe_of_another(rt, found) {
             return Err(of_another()).context(path);
@@ -461,20 +464,20 @@ impl Target<'_> {
     ) -> Result<(), Error> {
         let path = self.path;
         if messages.contains(&FileId::of(found)) {
-            bail!("{path}: it is the message, and is not replaced");
+            return Err(about(path, "it is the message, and is not replaced"));
         }
         let start = read_start(rt, path)?;
         let start = start.as_slice();
         if self.content != Content::PrivateKey {
             if is_private_key(start) || has_private_label(rt, path).context(path)? {
-                bail!("{path}: it has a private key, which is not replaced");
+                return Err(about(path, "it has a private key, which is not replaced"));
             }
         }
         if !self.force && !self.may_replace(start) {
-            bail!("{path}: it is there already, and only --force replaces it");
+            return Err(about(path, "it is there already, and only --force replaces it"));
         }
         if found.permissions().readonly() {
-            bail!("{path}: it is read-only, and is not replaced");
+            return Err(about(path, "it is read-only, and is not replaced"));
         }
         OpenOptions::new().write(true).open(rt, path).context(path)?;
         Ok(())

@@ -49,7 +49,7 @@ pub fn line_of(alloc: Global, error: &Error) -> Result<String, AllocError> {
     printable(alloc, text.as_str())
 }
 
-/// Answers the words of the process after the program's name.
+/// Carries out the words of the process after the program's name.
 fn answer_process(rt: &HostRuntime) -> Result<bool, Error> {
     let words = match env::args(rt) {
         Err(error) if error.kind() == ErrorKind::InvalidData => return Err(unreadable(rt)?),
@@ -75,7 +75,8 @@ fn unreadable(rt: &HostRuntime) -> Result<Error, Error> {
     Ok(Error::msg("a word is not UTF-8"))
 }
 
-/// Answers these words: false for an invalid signature, of which standard error says, and true for everything else that was done.
+/// Carries out these words: false for an invalid signature, of which standard error says, and true for everything else
+/// that was done.
 pub fn answer<S: AsStr>(rt: &HostRuntime, words: &[S]) -> Result<bool, Error> {
     let command = mlsign(rt.alloc()).map_err(io::Error::from)?;
     let matches = match command.try_get_matches_from(words) {

@@ -25,7 +25,7 @@ pub(crate) struct Progress<'a, I> {
     started: Option<Instant>,
     read: u64,
     shown: Option<u64>,
-    /// The number of the error by which the system refused to read.
+    /// The number of the error by which the system failed to read.
     failed: Option<i32>,
 }
 

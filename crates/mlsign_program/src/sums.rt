@@ -2,11 +2,11 @@
 #![tactic(auto)]
 
 use crate::commands::open;
-use crate::text::printable;
+use crate::text::{about, printable};
 use crate::verify::{
     Ends, VerifyingKey, accepts_list, read_signature, say_invalid, say_valid, tell_keys,
 };
-use anyhow::{Context, Error, bail};
+use anyhow::{Context, Error};
 use clap::ArgMatches;
 use sha2::{Digest, Sha256};
 use std::alloc::Global;
@@ -58,7 +58,7 @@ fn read_list(rt: &HostRuntime, words: &ArgMatches<'_>, path: &str) -> Result<Vec
     let mut input = open(rt, words, path)?.take(LONGEST as u64 + 1);
     input.read_to_end(&mut bytes).context(path)?;
     if bytes.len() > LONGEST {
-        bail!("{path}: it is too long for a list");
+        return Err(about(path, "it is too long for a list"));
     }
     Ok(bytes)
 }
@@ -71,7 +71,7 @@ fn check_files(
     list: &[u8],
 ) -> Result<bool, Error> {
     let Ok(text) = str::from_utf8(list) else {
-        bail!("{path}: the list is not UTF-8");
+        return Err(about(path, "the list is not UTF-8"));
     };
     let sums = sums_of(rt.alloc(), path, text)?;
     let mut ends = Ends::new(sums.len());
@@ -86,7 +86,7 @@ fn check_files(
         ends.count(rt, end)?;
     }
     if found == 0 {
-        bail!("{path}: no file of the list is there");
+        return Err(about(path, "no file of the list is there"));
     }
     ends.worst()
 }
@@ -96,7 +96,7 @@ fn sums_of<'a>(alloc: Global, path: &str, text: &'a str) -> Result<Vec<Sum<'a>>,
     let mut sums = Vec::new(alloc);
     for line in text.lines() {
         let Some(sum) = sum_of(alloc, line)? else {
-            bail!("{path}: it is no list of `sha256sum`");
+            return Err(about(path, "it is no list of `sha256sum`"));
         };
         sums.push(sum).map_err(io::Error::from)?;
     }

@@ -1,7 +1,14 @@
 //! Lines for people.
 #![tactic(auto)]
 
+use anyhow::Error;
 use std::alloc::{AllocError, Global};
+use std::fmt::Display;
+
+/// An error about a file, which keeps its reason however long the name is. (A message of `bail!` is cut.)
+pub(crate) fn about<R: Display + Drop>(path: &str, reason: R) -> Error {
+    Error::msg(reason).context(path)
+}
 
 /// A text on one line: a character that cannot be printed is escaped, as `\n` or `\u{1b}`.
 pub(crate) fn printable(alloc: Global, text: &str) -> Result<String, AllocError> {

@@ -14,7 +14,7 @@ use crate::files::{metadata, read_start};
 use crate::keyfile::KeyFile;
 use crate::process::line_of;
 use crate::sums::verify_sums;
-use crate::text::printable;
+use crate::text::{about, printable};
 use anyhow::{Context, Error, bail};
 use base64::engine::general_purpose::STANDARD_NO_PAD;
 use clap::ArgMatches;
@@ -227,7 +227,10 @@ fn verify_message(
     let signature = read_signature(rt, words, message)?;
     let signature = signature.as_slice();
     if keys.len() > 1 && !metadata(rt, message).context(message)?.is_file() {
-        bail!("{message}: it can be read only once, so it is verified by one public key");
+        return Err(about(
+            message,
+            "it can be read only once, so it is verified by one public key",
+        ));
     }
     let shown = has_several(words, "message");
     for key in keys.iter_mut() {

@@ -41,7 +41,7 @@ fn verifying(alloc: Global, text: &[u8]) -> Result<VerifyingKey, CommandFault> {
     VerifyingKey::new(alloc, key)
 }
 
-/// What `verify` answers of a signature in base64.
+/// What `verify` returns for a signature in base64.
 fn answer(
     alloc: Global,
     public: &[u8],
@@ -198,7 +198,7 @@ fn fault_of(alloc: Global, der: &[u8]) -> Option<CommandFault> {
     read_private_key(alloc, Form::Der, SetName::MlDsa44, der).err()
 }
 
-/// A seed beside an expanded key that is not its own, and an expanded key that is not whole.
+/// A seed beside an expanded key that is not its own, and an expanded key that is not consistent.
 #[test]
 #[tactic(auto, unfolding(fips204_base::specs::Packing::bit_length))]
 fn inconsistent_keys(rt: HostRuntime) {

@@ -5,7 +5,7 @@
 use anyhow::Result;
 use mlsign_program::{answer, line_of};
 
-/// Answers the words of a line.
+/// Carries out the words of a line.
 fn answer_line(rt: &HostRuntime, line: &str) -> Result<()> {
     let words: Vec<&str> = line.split(' ').collect(rt.alloc())?;
     println!(rt; "> {line}")?;

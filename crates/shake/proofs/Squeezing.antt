@@ -11,7 +11,7 @@ use Rattle.shake.specs.State.{next_bytes}
 use Rattle.shake.specs.Lengths.{length-bytes, length-squeezed, length-keccak_f, length-message_state, ceil_enough}
 use Rattle.shake.proofs.BlockBytes.{take_run}
 
--- a front of a join, where the second part may be cut
+-- a prefix of a join, where the second part may be cut
 pub take_join : (d : ℕ) (x y z : List ℕ) → take d y ≡ take d z → take d (x ++ y) ≡ take d (x ++ z)
 take_join zero x y z e = refl
 take_join (suc d) [] y z e = e

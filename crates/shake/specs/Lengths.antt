@@ -1,4 +1,4 @@
--- How many bytes the output has: cited by laws of streams; nobody has to believe it.
+-- How many bytes the output has: cited by laws of XOFs; nobody has to believe it.
 use Rattle.std.specs.Prelude.{◌≡◌, ◌<◌, ◌≤◌, ℕ, zero, suc, ◌*◌, ◌%◌, min, List, [], ◌∷◌, length, take}
 use Rattle.std.specs.List.{flat_map}
 use Rattle.std.specs.Int.{w64, to_le_bytes, div_ceil}

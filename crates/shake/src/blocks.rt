@@ -4,7 +4,7 @@
 ghost use Rattle.std.specs.Prelude.{◌≡◌, ◌<◌, ◌≤◌, ◌+◌, ◌*◌, ◌-◌, ◌%◌, ◌^◌, ◌++◌, ℕ, length, min, take, drop, slice_index};
 ghost use Rattle.shake.specs.Shake.{bytes, block_lane, add_block, padding};
 
-/// Copies from `source` as many bytes as `out` takes, and answers how many.
+/// Copies from `source` as many bytes as `out` takes, and returns how many.
 pub(crate) fn write_run(source: &[u8], out: &mut [u8]) -> usize
     ensures count { result ≡ min (length source.now) (length out.old) }
     ensures copied { out.new ≡ take result source.now ++ drop result out.old }

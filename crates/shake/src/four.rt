@@ -7,16 +7,20 @@ ghost use Rattle.shake.specs.Four.{AreFour, beside, state_at, with_plane};
 
 use crate::permutation::{ROUND_CONSTANTS, effects, plane, round};
 
-/// Four states side by side.
+/// Writes four states side by side.
 #[inline(always)]
-fn beside(a: &[u64; 25], b: &[u64; 25], c: &[u64; 25], d: &[u64; 25]) -> [[u64; 4]; 25]
-    ensures { result ≡ beside a.now b.now c.now d.now }
+fn write_beside(
+    a: &[u64; 25],
+    b: &[u64; 25],
+    c: &[u64; 25],
+    d: &[u64; 25],
+    states: &mut [[u64; 4]; 25],
+)
+    ensures { states.new ≡ beside a.now b.now c.now d.now }
 {
-    let mut states = [[0; 4]; 25];
     for index in 0..25 {
         states[index] = [a[index], b[index], c[index], d[index]];
     }
-    states
 }
 
 /// State `j` of four.
@@ -104,7 +108,8 @@ pub fn f1600_four(a: &mut [u64; 25], b: &mut [u64; 25], c: &mut [u64; 25], d: &m
     ensures third { c.new ≡ keccak_f c.old }
     ensures fourth { d.new ≡ keccak_f d.old }
 {
-    let mut states = beside(a, b, c, d);
+    let mut states = [[0; 4]; 25];
+    write_beside(a, b, c, d, &mut states);
     f1600x4(&mut states);
     *a = state_at(&states, 0);
     *b = state_at(&states, 1);

@@ -60,7 +60,7 @@ impl<const R: usize> Shake<R> {
         }
     }
 
-    /// Adds bytes of the front of `input` to the message, and answers how many these are.
+    /// Adds bytes of the start of `input` to the message, and returns how many these are.
     fn update_run(&mut self, input: &[u8]) -> usize
         requires { 0 < length input.now }
         ensures some { 0 < result }
@@ -205,7 +205,7 @@ impl<const R: usize> ShakeReader<R> {
         }
     }
 
-    /// Fills the front of `out` with bytes of one block, and answers how many these are.
+    /// Fills the start of `out` with bytes of one block, and returns how many these are.
     fn read_run(&mut self, out: &mut [u8]) -> usize
         requires { 0 < length out.old }
         ensures some { 0 < result }

@@ -59,7 +59,10 @@ where
     /// # Ok::<(), &'static str>(())
     /// ```
     pub fn write_der(&self, der: &mut [u8]) -> Result<(), Error> {
-        Ok(answer(Set::<PK, SK, SIG>::public_key_to_der(self.0.given(), der), ())?)
+        Ok(answer(
+            Set::<PK, SK, SIG>::public_key_to_der(self.0.given(), der),
+            (),
+        )?)
     }
 }
 
@@ -162,7 +165,10 @@ where
     /// # Ok::<(), &'static str>(())
     /// ```
     pub fn write_der(&self, der: &mut [u8]) -> Result<(), Error> {
-        Ok(answer(Set::<PK, SK, SIG>::private_key_to_der(self.0.given(), der), ())?)
+        Ok(answer(
+            Set::<PK, SK, SIG>::private_key_to_der(self.0.given(), der),
+            (),
+        )?)
     }
 
     /// Writes a private key in DER by its seed and the expanded key that it generates, of `BOTH_DER_LEN` bytes.
@@ -190,7 +196,8 @@ where
 /// PEM in the strict form of RFC 7468, as `mlsign` and OpenSSL write it.
 #[cfg(feature = "default-rng")]
 mod pem {
-    use super::{Calls, Error, PrivateKey, PublicKey, Set};
+    use super::{Calls, Error, PrivateKey, PublicKey, SEED_DER_LEN, Set, answer};
+    use crate::wiped::{Wiped, WipedVec};
     use std::string::String;
     use std::vec::Vec;
 
@@ -198,41 +205,63 @@ mod pem {
     const PRIVATE: &str = "PRIVATE KEY";
     const SYMBOLS: &[u8; 64] = b"ABCDEFGHIJKLMNOPQRSTUVWXYZabcdefghijklmnopqrstuvwxyz0123456789+/";
 
-    /// The text of these bytes, in lines of 64 characters.
-    fn encode(label: &str, der: &[u8]) -> String {
-        let mut text = String::from("-----BEGIN ") + label + "-----\n";
-        // 48 bytes are a line.
-        for line in der.chunks(48) {
-            for group in line.chunks(3) {
-                let bits = group
-                    .iter()
-                    .fold(0, |bits, byte| bits << 8 | u32::from(*byte))
-                    << (8 * (3 - group.len()));
-                for place in 0..4 {
-                    let symbol = SYMBOLS[(bits >> (18 - 6 * place) & 63) as usize];
-                    text.push(if place <= group.len() {
-                        char::from(symbol)
-                    } else {
-                        '='
-                    });
-                }
-            }
-            text.push('\n');
-        }
-        text + "-----END " + label + "-----\n"
+    /// The first or the last line of a text.
+    fn boundary(word: &'static str, label: &str) -> impl Iterator<Item = u8> {
+        ["-----", word, " ", label, "-----\n"]
+            .into_iter()
+            .flat_map(str::bytes)
     }
 
-    /// The bytes of a text: what spells none, or is another than their text, is refused.
-    fn decode(label: &str, text: &str) -> Result<Vec<u8>, &'static str> {
-        let text = text.replace("\r\n", "\n");
-        let front = String::from("-----BEGIN ") + label + "-----\n";
-        let body = text
-            .strip_prefix(front.as_str())
-            .ok_or("it has a key of another kind, or something else than a key")?;
-        let mut der = Vec::new();
+    /// The four symbols of three bytes, or of fewer at the end.
+    fn symbols(group: &[u8]) -> [u8; 4] {
+        let bits = group
+            .iter()
+            .fold(0, |bits, byte| bits << 8 | u32::from(*byte))
+            << (8 * (3 - group.len()));
+        core::array::from_fn(|place| {
+            if place <= group.len() {
+                SYMBOLS[(bits >> (18 - 6 * place) & 63) as usize]
+            } else {
+                b'='
+            }
+        })
+    }
+
+    /// The characters of the text of these bytes, in lines of 64.
+    fn characters(label: &str, der: &[u8]) -> impl Iterator<Item = u8> {
+        // 48 bytes are a line.
+        let lines = der
+            .chunks(48)
+            .flat_map(|line| line.chunks(3).flat_map(symbols).chain([b'\n']));
+        boundary("BEGIN", label)
+            .chain(lines)
+            .chain(boundary("END", label))
+    }
+
+    /// The text of these bytes. It has its whole length from the start: one that grows leaves copies behind.
+    fn encode(label: &str, der: &[u8]) -> String {
+        let mut text = String::with_capacity(characters(label, der).count());
+        text.extend(characters(label, der).map(char::from));
+        text
+    }
+
+    /// The bytes of a text: what spells none, or is another than their text, is rejected.
+    fn decode(label: &str, text: &str) -> Result<WipedVec, &'static str> {
+        let text = text.as_bytes();
+        // Lines may end with CR LF too.
+        let given = || {
+            (0..text.len())
+                .filter(|at| !text[*at..].starts_with(b"\r\n"))
+                .map(|at| text[at])
+        };
+        let mut rest = given();
+        if !boundary("BEGIN", label).all(|it| rest.next() == Some(it)) {
+            return Err("it has a key of another kind, or something else than a key");
+        }
+        // It does not grow either.
+        let mut der = WipedVec(Vec::with_capacity(text.len() / 4 * 3 + 3));
         let (mut bits, mut count) = (0, 0);
-        for symbol in body
-            .bytes()
+        for symbol in rest
             .take_while(|it| *it != b'=' && *it != b'-')
             .filter(|it| *it != b'\n')
         {
@@ -243,11 +272,11 @@ mod pem {
             (bits, count) = (bits << 6 | value as u32, count + 6);
             if count >= 8 {
                 count -= 8;
-                der.push((bits >> count) as u8);
+                der.0.push((bits >> count) as u8);
                 bits &= (1 << count) - 1;
             }
         }
-        if encode(label, &der) == text {
+        if characters(label, &der.0).eq(given()) {
             Ok(der)
         } else {
             Err("its text is damaged")
@@ -276,7 +305,7 @@ mod pem {
         /// # Ok::<(), &'static str>(())
         /// ```
         pub fn from_pem(text: &str) -> Result<Self, Error> {
-            Self::from_der(&decode(PUBLIC, text)?)
+            Self::from_der(&decode(PUBLIC, text)?.0)
         }
 
         /// The text of the key's file.
@@ -308,7 +337,7 @@ mod pem {
         Set<PK, SK, SIG>: Calls,
     {
         /// The key of a file in PEM, which is not encrypted, as `mlsign` and OpenSSL write it. The DER that is made on the
-        /// way is not wiped.
+        /// way is wiped; the text is yours.
         /// Takes `stack::DER` bytes of stack.
         ///
         /// # Errors
@@ -326,7 +355,7 @@ mod pem {
         /// # Ok::<(), &'static str>(())
         /// ```
         pub fn from_pem(text: &str) -> Result<Self, Error> {
-            Self::from_der(&decode(PRIVATE, text)?)
+            Self::from_der(&decode(PRIVATE, text)?.0)
         }
 
         /// The seed of a private key in PEM, of which `keygen_from_seed` makes it.
@@ -346,10 +375,10 @@ mod pem {
         /// # Ok::<(), &'static str>(())
         /// ```
         pub fn seed_from_pem(text: &str) -> Result<[u8; 32], Error> {
-            Self::seed_from_der(&decode(PRIVATE, text)?)
+            Self::seed_from_der(&decode(PRIVATE, text)?.0)
         }
 
-        /// The text of a private key's file by its seed, not encrypted.
+        /// The text of a private key's file by its seed, not encrypted. It is yours to wipe.
         /// Takes `stack::DER` bytes of stack.
         ///
         /// # Errors
@@ -368,10 +397,13 @@ mod pem {
         /// # Ok::<(), &'static str>(())
         /// ```
         pub fn seed_to_pem(seed: &[u8; 32]) -> Result<String, Error> {
-            Ok(encode(PRIVATE, &Self::seed_to_der(seed)?))
+            let mut der = Wiped::<SEED_DER_LEN>::zeros();
+            let status = Set::<PK, SK, SIG>::seed_to_der(seed, der.array_mut());
+            answer(status, ())?;
+            Ok(encode(PRIVATE, der.array()))
         }
 
-        /// The text of the key's file by its expanded key, not encrypted.
+        /// The text of the key's file by its expanded key, not encrypted. It is yours to wipe.
         /// Takes `stack::DER` bytes of stack.
         ///
         /// # Errors
@@ -389,9 +421,57 @@ mod pem {
         /// # Ok::<(), &'static str>(())
         /// ```
         pub fn to_pem(&self) -> Result<String, Error> {
-            let mut der = std::vec![0; Self::DER_LEN];
-            self.write_der(&mut der)?;
-            Ok(encode(PRIVATE, &der))
+            let mut der = WipedVec(std::vec![0; Self::DER_LEN]);
+            self.write_der(&mut der.0)?;
+            Ok(encode(PRIVATE, &der.0))
+        }
+    }
+
+    #[cfg(test)]
+    mod tests {
+        use super::{decode, encode};
+
+        /// The vectors of RFC 4648, section 10, as texts, with lines that end either way.
+        #[test]
+        fn published_texts() {
+            let rows = [
+                ("", ""),
+                ("f", "Zg==\n"),
+                ("fo", "Zm8=\n"),
+                ("foo", "Zm9v\n"),
+                ("foob", "Zm9vYg==\n"),
+                ("fooba", "Zm9vYmE=\n"),
+                ("foobar", "Zm9vYmFy\n"),
+            ];
+            for (bytes, symbols) in rows {
+                let text = std::format!("-----BEGIN A B-----\n{symbols}-----END A B-----\n");
+                assert_eq!(encode("A B", bytes.as_bytes()), text);
+                for given in [&text, &text.replace('\n', "\r\n")] {
+                    let read = decode("A B", given).map(|it| it.0.clone());
+                    assert_eq!(read.as_deref(), Ok(bytes.as_bytes()));
+                    assert!(decode("A", given).is_err());
+                    assert!((0..given.len()).all(|end| decode("A B", &given[..end]).is_err()));
+                }
+            }
+        }
+
+        /// A text that another one than its bytes' stands for, or that has characters of more bytes.
+        #[test]
+        fn other_texts() {
+            for inside in [
+                "Zh==\n",
+                "Zg\n",
+                "Z\n",
+                "Zm\n9v\n",
+                "Zm9v",
+                "Zm9v\n\n",
+                "Zm9\u{e9}\n",
+                "\r",
+                "Zm9v\r\r\n",
+            ] {
+                let text = std::format!("-----BEGIN A-----\n{inside}-----END A-----\n");
+                assert_eq!(decode("A", &text).err(), Some("its text is damaged"));
+            }
         }
     }
 }

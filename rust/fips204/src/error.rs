@@ -1,4 +1,4 @@
-//! Why a call was refused.
+//! Why a call returns an error.
 
 /// The error of the calls that the crate fips204 does not have. Those that it has return its `&'static str`; `?` turns either into
 /// the other, and this one into a `Box<dyn Error>` and its like.
@@ -22,7 +22,7 @@
 pub struct Error(&'static str);
 
 impl Error {
-    /// The text of the error, which is that of `mldsa_text` in C where the library refused a call.
+    /// The text of the error, which is that of `mldsa_text` in C where the library rejected a call.
     ///
     /// ```
     /// # #[cfg(feature = "ml-dsa-65")] {

@@ -42,18 +42,18 @@ pub mod ml_dsa_44 {
     crate::set::parameter_set!("ml_dsa_44", set_44, 1312, 2560, 2420);
     crate::prepared::prepared_keys!("ml_dsa_44", set_44, 17760, 18944);
     crate::set::stack!(
-        KEYGEN: 116_736,
-        SIGN: 138_240,
-        VERIFY: 58_368,
+        KEYGEN: 57_344,
+        SIGN: 116_736,
+        VERIFY: 55_296,
         PUBLIC_KEY: 133_120,
         CHECK: 95_232,
         WHOLE: 117_760,
         PAIR: 121_856,
-        PREPARE_PUBLIC_KEY: 51_200,
-        VERIFY_PREPARED: 58_368,
+        PREPARE_PUBLIC_KEY: 49_152,
+        VERIFY_PREPARED: 55_296,
         PREPARE_PRIVATE_KEY: 108_544,
-        SIGN_PREPARED: 135_168,
-        DER: 126_976,
+        SIGN_PREPARED: 116_736,
+        DER: 124_928,
     );
 }
 
@@ -63,18 +63,18 @@ pub mod ml_dsa_65 {
     crate::set::parameter_set!("ml_dsa_65", set_65, 1952, 4032, 3309);
     crate::prepared::prepared_keys!("ml_dsa_65", set_65, 32736, 34752);
     crate::set::stack!(
-        KEYGEN: 158_720,
-        SIGN: 179_200,
-        VERIFY: 72_704,
+        KEYGEN: 73_728,
+        SIGN: 153_600,
+        VERIFY: 68_608,
         PUBLIC_KEY: 185_344,
         CHECK: 128_000,
         WHOLE: 161_792,
         PAIR: 166_912,
-        PREPARE_PUBLIC_KEY: 82_944,
-        VERIFY_PREPARED: 70_656,
+        PREPARE_PUBLIC_KEY: 80_896,
+        VERIFY_PREPARED: 66_560,
         PREPARE_PRIVATE_KEY: 147_456,
-        SIGN_PREPARED: 176_128,
-        DER: 172_032,
+        SIGN_PREPARED: 153_600,
+        DER: 169_984,
     );
 }
 
@@ -84,17 +84,17 @@ pub mod ml_dsa_87 {
     crate::set::parameter_set!("ml_dsa_87", set_87, 2592, 4896, 4627);
     crate::prepared::prepared_keys!("ml_dsa_87", set_87, 60000, 62240);
     crate::set::stack!(
-        KEYGEN: 210_944,
-        SIGN: 245_760,
-        VERIFY: 87_040,
-        PUBLIC_KEY: 262_144,
+        KEYGEN: 90_112,
+        SIGN: 209_920,
+        VERIFY: 81_920,
+        PUBLIC_KEY: 253_952,
         CHECK: 178_176,
         WHOLE: 223_232,
         PAIR: 232_448,
-        PREPARE_PUBLIC_KEY: 125_952,
-        VERIFY_PREPARED: 86_016,
+        PREPARE_PUBLIC_KEY: 124_928,
+        VERIFY_PREPARED: 80_896,
         PREPARE_PRIVATE_KEY: 204_800,
-        SIGN_PREPARED: 240_640,
-        DER: 238_592,
+        SIGN_PREPARED: 209_920,
+        DER: 235_520,
     );
 }

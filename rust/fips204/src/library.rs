@@ -141,6 +141,7 @@ mod tests {
 
     /// The library is of the same major and minor version as this crate.
     #[test]
+    #[cfg_attr(miri, ignore = "it calls the library")]
     fn version_of_the_library() {
         let version = super::version();
         assert_eq!(

@@ -313,7 +313,7 @@ pub trait Verifier {
     #[must_use]
     fn verify(&self, message: &[u8], signature: &Self::Signature, ctx: &[u8]) -> bool;
 
-    /// Whether the key accepts the signature of a digest under a context. False where signing would refuse context, identifier
+    /// Whether the key accepts the signature of a digest under a context. False where signing would reject context, identifier
     /// or digest. Takes `stack::VERIFY` bytes of stack.
     ///
     /// ```

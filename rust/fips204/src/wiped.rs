@@ -71,7 +71,7 @@ impl<const N: usize, P: BorrowMut<[u8; N]>> Wiped<N, P> {
         self.place.borrow_mut()
     }
 
-    /// What a call of the library is given to read: no bytes once they were wiped, which each call refuses.
+    /// What a call of the library is given to read: no bytes once they were wiped, which each call rejects.
     pub(crate) fn given(&self) -> &[u8] {
         if self.is_wiped { &[] } else { self.array() }
     }
@@ -123,6 +123,17 @@ impl<const N: usize> Clone for Wiped<N> {
     }
 }
 
+/// A vector that is overwritten with zeros when it is dropped. It may not grow, which would leave a copy of it behind.
+#[cfg(feature = "default-rng")]
+pub(crate) struct WipedVec(pub(crate) std::vec::Vec<u8>);
+
+#[cfg(feature = "default-rng")]
+impl Drop for WipedVec {
+    fn drop(&mut self) {
+        wipe(&mut self.0);
+    }
+}
+
 /// For a type over a `Wiped`, which may be generic over lengths: `Debug`, which shows none of its bytes, and the traits of `zeroize`.
 macro_rules! shows_nothing {
     ($name:ident $(<$($length:ident),+>)?) => {
@@ -133,7 +144,7 @@ macro_rules! shows_nothing {
             }
         }
 
-        /// Overwrites the bytes with zeros, which stand for no value of this type: from then on each call refuses it.
+        /// Overwrites the bytes with zeros, which stand for no value of this type: from then on each call rejects it.
         #[cfg(feature = "zeroize")]
         impl $(<$(const $length: usize),+>)? zeroize::Zeroize for $name $(<$($length),+>)? {
             fn zeroize(&mut self) {
@@ -157,13 +168,9 @@ mod tests {
     fn dropping_overwrites() {
         let mut place = ManuallyDrop::new(Wiped::<100>::zeros());
         place.array_mut().fill(7);
-        let bytes = place.array().as_ptr();
-        // SAFETY: the value is dropped once, and its place is still there to be read.
-        let left = unsafe {
-            ManuallyDrop::drop(&mut place);
-            core::slice::from_raw_parts(bytes, 100)
-        };
-        assert!(left.iter().all(|byte| *byte == 0));
+        // SAFETY: the value is dropped once. What is read then has nothing else to drop, and is still there.
+        unsafe { ManuallyDrop::drop(&mut place) }
+        assert_eq!(place.array(), &[0; 100]);
     }
 
     /// No call is given what was wiped, nor a copy of it.

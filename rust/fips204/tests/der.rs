@@ -1,4 +1,4 @@
-//! Keys in DER and PEM: as OpenSSL 4.0.0 writes them of the seed 00 01 .. 1F, and what is refused.
+//! Keys in DER and PEM: as OpenSSL 4.0.0 writes them of the seed 00 01 .. 1F, and what is rejected.
 
 #![cfg(all(
     feature = "ml-dsa-44",
@@ -101,7 +101,9 @@ macro_rules! tests_of_a_set {
                     said(&[&der[..], &[0]].concat()),
                     Some("more follows behind the end of its DER")
                 );
-                let other = fips204::$other::PublicKey::from_der(&der).err().map(|it| it.as_str());
+                let other = fips204::$other::PublicKey::from_der(&der)
+                    .err()
+                    .map(|it| it.as_str());
                 assert_eq!(other, Some("its key is one of another parameter set"));
                 der[16] = 20;
                 assert_eq!(

@@ -154,7 +154,7 @@ macro_rules! interface {
             );
             assert_eq!(failing.asked, [32, 32, 32, 32]);
 
-            // What is refused beforehand does not ask.
+            // What is rejected beforehand does not ask.
             let mut unasked = Counted::new(None);
             assert_eq!(
                 drawing_errors(

@@ -11,7 +11,7 @@ macro_rules! tests_of_a_set {
             use fips204::traits::{KeyGen, SerDes, Signer};
             use fips204::$set::{KG, PK_LEN, PrivateKey, PublicKey, SK_LEN, stack};
 
-            /// Slices of the right length are keys; others are refused, and so are bytes that are no private key.
+            /// Slices of the right length are keys; others are rejected, and so are bytes that are no private key.
             #[test]
             fn of_slices() {
                 let (public, private) = KG::keygen_from_seed(&[7; 32]);

@@ -6,7 +6,7 @@ use std::io::{BufRead, Read};
 /// The most characters that a line may have.
 const LONGEST_LINE: usize = 2_097_152;
 
-/// Why a run ended without an answer.
+/// Why a run ended without a result.
 pub enum Fault {
     /// The words are no call.
     Usage,

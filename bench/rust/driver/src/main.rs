@@ -21,7 +21,7 @@ fn read_all(input: &mut impl BufRead, wanted: &[Wanted], lines: &mut Vec<Vec<u8>
     Ok(())
 }
 
-/// Reads the lines of a command, and gives its answer.
+/// Reads the lines of a command, and gives its result.
 fn answer(command: &str, set: &Set, input: &mut impl BufRead) -> Result<Answer, Fault> {
     let mut lines = Vec::new();
     let wanted: &[Wanted] = match command {

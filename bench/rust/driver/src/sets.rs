@@ -10,7 +10,7 @@ use sha3::Shake256;
 /// What a command writes, and whether it is done or `yes`.
 pub type Answer = (Vec<u8>, bool);
 
-/// A parameter set: the lengths of its byte strings, and what each command answers to the bytes of its lines.
+/// A parameter set: the lengths of its byte strings, and what each command returns for the bytes of its lines.
 pub struct Set {
     pub pk_len: usize,
     pub sk_len: usize,

@@ -3,14 +3,15 @@
 //! by `prepare`.
 #![tactic(auto)]
 
-ghost use Rattle.std.specs.Prelude.{◌≡◌, ◌↔◌, length, map, Ok, IsTrue};
+ghost use Rattle.std.specs.Prelude.{◌≡◌, ◌↔◌, length, map, Ok, IfOk, IsTrue};
 ghost use Rattle.std.proofs.Common.{ap};
 ghost use Rattle.fips204_base.specs.Encodings.{ArePrivateParts};
 ghost use Rattle.fips204_base.specs.Vectors.{MatrixWithin};
 ghost use Rattle.fips204.specs.Framing.{plain, hashed, framed, represented, representative};
+ghost use Rattle.fips204.specs.Inputs.{input_of};
 ghost use Rattle.fips204.specs.Prepared.{sign_prepared, public_of_prepared, IsWholePrepared, IsEachSigned};
 ghost use Rattle.fips204.specs.Prepared.{AcceptedIfWholePrepared, IsEachJudged, VerifiesPrepared};
-ghost use Rattle.fips204.specs.Refusals.{DrawsIf, DrawsUnless, input_fault, refused_or};
+ghost use Rattle.fips204.specs.Refusals.{DrawsIf, DrawsUnless, Writes, input_fault, refused_or};
 ghost use Rattle.fips204.specs.Signing.{sign_with};
 
 use crate::input::Input;
@@ -44,12 +45,9 @@ where
         ap (λ first. refused_or first (sign_with S.set H.front key.matrix key.parts (representative H.front key.parts.tr input) rnd)) broken };
 
     fn sign_input(&self, seed: &[u8; 32], input: &Input<'_>) -> Result<[u8; SIG_LEN], Fault> {
-        let key = ml_dsa::SigningKey {
-            key: &self.key,
-            a_hat: &self.a_hat,
-            transforms: &self.transforms,
-        };
-        key.sign_input::<SIG_LEN>(&S::params(), input, seed)
+        let mut signature = [0u8; SIG_LEN];
+        self.write_signature(seed, input, &mut signature)?;
+        Ok(signature)
     }
 
     /// The public key that belongs to the key, prepared too. Never returns an error.
@@ -104,6 +102,28 @@ where
         ensures parts { ArePrivateParts S.set.eta K L self.now.parts }
     {
         &self.key.tr
+    }
+
+    /// Writes what `sign_input` returns: `key.write_signature(&random, &input, &mut signature)?`.
+    ///
+    /// Errors: those of `sign_input`; `signature` is then as it was.
+    pub fn write_signature(
+        &self,
+        seed: &[u8; 32],
+        input: &Input<'_>,
+        signature: &mut [u8; SIG_LEN],
+    ) -> Result<(), Fault>
+        ensures answer { Writes (sign_prepared S.set H.front self.now seed.now (input_of input.now))
+            signature.old signature.new result }
+        ensures accepted { IfOk result
+            (λ _. AcceptedIfWholePrepared S.set H.front self.now (input_of input.now) (Ok signature.new)) }
+    {
+        let key = ml_dsa::SigningKey {
+            key: &self.key,
+            a_hat: &self.a_hat,
+            transforms: &self.transforms,
+        };
+        key.write_signature(&S::params(), input, seed, signature)
     }
 
     /// Signs a message (Algorithm 2) with 32 random bytes of the generator, which is asked once:

@@ -2,11 +2,12 @@
 //! it needs of the bytes, so that it has no more of the stack than the same call of a plain key.
 #![tactic(auto)]
 
-ghost use Rattle.std.specs.Prelude.{◌≡◌, ◌↔◌, ◌*◌, IsTrue, List, length, Ok, Err, MatchOption, MatchResult};
+ghost use Rattle.std.specs.Prelude.{◌≡◌, ◌↔◌, ◌*◌, IsTrue, IfNone, List, length, Ok, Err, MatchOption, MatchResult};
 ghost use Rattle.fips204_base.specs.declared.types.T.{T};
 ghost use Rattle.fips204.specs.Inputs.{input_of};
 ghost use Rattle.fips204.specs.Prepared.{PreparedPublic, PreparedPrivate, prepared_public, prepared_private};
 ghost use Rattle.fips204.specs.Prepared.{sign_prepared, VerifiesPrepared};
+ghost use Rattle.fips204.specs.Refusals.{Writes};
 ghost use Rattle.fips204.specs.PreparedBytes.{IsMatrix, matrix_bytes, prepared_public_bytes, prepared_public_length};
 ghost use Rattle.fips204.specs.PreparedBytes.{prepared_private_bytes, prepared_private_length, IsPreparedPublicOf};
 ghost use Rattle.fips204.specs.PreparedBytes.{IsPreparedPrivateOf};
@@ -114,7 +115,7 @@ where
     S: SignatureSizes<K, L, SIG_LEN> + KeySizes<K, L, PK_LEN, SK_LEN>,
 {
     /// Whether the prepared key that has these bytes accepts the signature of an input, or `None` if none has them:
-    /// what `accepts_input` of the key that `read` makes answers.
+    /// what `accepts_input` of the key that `read` makes returns.
     pub fn accepts_by_bytes(
         bytes: &[u8],
         input: &Input<'_>,
@@ -158,40 +159,48 @@ where
     S: Set<Signature = [u8; SIG_LEN], PublicKey = [u8; PK_LEN], PrivateKey = [u8; SK_LEN]>,
     S: SignatureSizes<K, L, SIG_LEN> + KeySizes<K, L, PK_LEN, SK_LEN>,
 {
-    /// Signs an input with the prepared key that has these bytes and the random bytes `seed`, or answers `None` if none
-    /// has them: what `sign_input` of the key that `read` makes returns.
-    pub fn sign_by_bytes(
+    /// Signs an input with the prepared key that has these bytes and the random bytes `seed`, or returns `None` if none
+    /// has them; writes what `sign_input` of the key that `read` makes returns. After `None` and after an error
+    /// `signature` is as it was.
+    pub fn write_signature_by_bytes(
         bytes: &[u8],
         seed: &[u8; 32],
         input: &Input<'_>,
-    ) -> Option<Result<[u8; SIG_LEN], Fault>>
+        signature: &mut [u8; SIG_LEN],
+    ) -> Option<Result<(), Fault>>
         requires size { length bytes.now ≡ prepared_private_length S.set }
-        ensures { MatchOption result ((sk : PreparedPrivate) → IsPreparedPrivateOf S.set.eta K L bytes.now sk → ⊥)
+        ensures found { MatchOption result ((sk : PreparedPrivate) → IsPreparedPrivateOf S.set.eta K L bytes.now sk → ⊥)
             (λ answer. (sk : PreparedPrivate) × IsPreparedPrivateOf S.set.eta K L bytes.now sk
-            × (answer ≡ sign_prepared S.set H.front sk seed.now (input_of input.now))) }
+            × Writes (sign_prepared S.set H.front sk seed.now (input_of input.now))
+            signature.old signature.new answer) }
+        ensures kept { IfNone result (signature.new ≡ signature.old) }
     {
         let (key, matrix) = bytes.split_at(SK_LEN);
         let encoded = key.first_chunk::<SK_LEN>().unwrap();
         match &PrivateKey::<K, L, H, ()>::try_from_bytes(*encoded) {
             Err(_) => None,
-            Ok(plain) => Self::sign_with_matrix(plain, matrix, seed, input),
+            Ok(plain) => Self::write_with_matrix(plain, matrix, seed, input, signature),
         }
     }
 
-    /// Signs an input with the matrix that has these bytes, or answers `None` where a value is `q` or more.
+    /// Writes the signature of an input with the matrix that has these bytes, or returns `None` where a value is `q` or
+    /// more.
     ///
     /// Not inlined, so that the matrix is in the stack only while the key signs.
     #[inline(never)]
-    fn sign_with_matrix(
+    fn write_with_matrix(
         plain: &PrivateKey<K, L, H, ()>,
         matrix: &[u8],
         seed: &[u8; 32],
         input: &Input<'_>,
-    ) -> Option<Result<[u8; SIG_LEN], Fault>>
+        signature: &mut [u8; SIG_LEN],
+    ) -> Option<Result<(), Fault>>
         requires size { length matrix.now ≡ 1024 * L * K }
-        ensures { MatchOption result ((b : List (List T)) → IsMatrix K L b → matrix_bytes b ≡ matrix.now → ⊥)
+        ensures found { MatchOption result ((b : List (List T)) → IsMatrix K L b → matrix_bytes b ≡ matrix.now → ⊥)
             (λ answer. (a : List (List T)) × IsMatrix K L a × (matrix_bytes a ≡ matrix.now)
-            × (answer ≡ sign_prepared S.set H.front record { parts = plain.now; matrix = a } seed.now (input_of input.now))) }
+            × Writes (sign_prepared S.set H.front record { parts = plain.now; matrix = a } seed.now
+            (input_of input.now)) signature.old signature.new answer) }
+        ensures kept { IfNone result (signature.new ≡ signature.old) }
     {
         let mut a_hat = [[T0; L]; K];
         read_matrix(matrix, &mut a_hat)?;
@@ -202,6 +211,6 @@ where
             a_hat: &a_hat,
             transforms: &transforms,
         };
-        Some(key.sign_input::<SIG_LEN>(&S::params(), input, seed))
+        Some(key.write_signature(&S::params(), input, seed, signature))
     }
 }

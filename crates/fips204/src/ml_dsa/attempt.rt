@@ -1,13 +1,13 @@
 //! One attempt of signing: the body of the loop of FIPS 204, Algorithm 7.
 #![tactic(auto)]
 
-ghost use Rattle.std.specs.Prelude.{◌≡◌, ◌≤◌, ◌<◌, pos, nat_abs};
+ghost use Rattle.std.specs.Prelude.{◌≡◌, ◌≢◌, ◌≤◌, ◌<◌, Ok, true, pos, nat_abs};
 ghost use Rattle.fips204_base.specs.Vectors.{vector_coefficients, vector_of};
 ghost use Rattle.fips204_base.specs.Bounds.{VectorWithin, coefficient_of};
 ghost use Rattle.fips204_base.specs.Residues.{residue};
 ghost use Rattle.fips204_base.specs.Rounding.{IsGamma2, high_bits};
 ghost use Rattle.fips204.specs.Signing.{attempt};
-ghost use Rattle.fips204.specs.SigningInputs.{AreAttemptInputs};
+ghost use Rattle.fips204.specs.SigningInputs.{AreAttemptInputs, attempted};
 ghost use Rattle.fips204.specs.Sets.{set_of};
 
 use super::commitment_hash::write_commitment_hash;
@@ -21,20 +21,23 @@ use fips204_base::product::write_matrix_product;
 use fips204_base::xof::Xof;
 
 impl<'a, const K: usize, const L: usize, H: Xof, G> SigningKey<'a, K, L, H, G> {
-    /// The attempt at counter `kappa` with the seed `rho''` of the mask (lines 11 to 32): returns its signature,
-    /// or `None` if it is rejected. `K`, `L` and `SIG_LEN` are those of the set.
+    /// The attempt at counter `kappa` with the seed `rho''` of the mask (lines 11 to 32): writes its signature, and
+    /// returns false if it is rejected. `K`, `L` and `SIG_LEN` are those of the parameter set.
     ///
-    /// Errors: `Fault::SamplingLimit` if its challenge reaches its limit.
+    /// Errors: `Fault::SamplingLimit` if its challenge reaches its limit. Nothing is written then, nor by one that is
+    /// rejected.
     pub(crate) fn attempt<const SIG_LEN: usize>(
         &self,
         p: &Params,
         mu: &[u8; 64],
         mask_seed: &[u8; 64],
         kappa: u16,
-    ) -> Result<Option<[u8; SIG_LEN]>, Fault>
+        signature: &mut [u8; SIG_LEN],
+    ) -> Result<bool, Fault>
         requires inputs { AreAttemptInputs p.now K L SIG_LEN kappa }
-        ensures { result
+        ensures answer { attempted signature.new result
             ≡ attempt (set_of p.now) H.front self.now.matrix self.now.parts mu.now mask_seed.now kappa }
+        ensures kept { result ≢ Ok true → signature.new ≡ signature.old }
     {
         // y = ExpandMask(rho'', kappa)
         let y = expand_mask::<L, H>(p.gamma1, mask_seed, kappa);
@@ -50,7 +53,7 @@ impl<'a, const K: usize, const L: usize, H: Xof, G> SigningKey<'a, K, L, H, G> {
         write_commitment_hash::<K, H>(p, mu, &w1, c_tilde);
         // c = SampleInBall(c_tilde)
         let c = sample_in_ball::<H>(p.tau, c_tilde)?;
-        Ok(self.rejection_checks(p, &y, &mut w, &mut w1, c_tilde, &c))
+        Ok(self.rejection_checks(p, &y, &mut w, &mut w1, c_tilde, &c, signature))
     }
 }
 

@@ -30,7 +30,7 @@ pub fn expand_public<const K: usize, const L: usize, const PK_LEN: usize, H: Xof
     }
 }
 
-/// Decodes a private key (Algorithm 25). `K` and `L` are those of the set, and `SK_LEN` is the length of its
+/// Decodes a private key (Algorithm 25). `K` and `L` are those of the parameter set, and `SK_LEN` is the length of its
 /// private keys.
 ///
 /// Errors: `Fault::KeyRange` if a field of s1 or s2 is above `2 eta`.

@@ -1,9 +1,11 @@
 //! Making keys (FIPS 204, Algorithms 1 and 6).
 #![tactic(auto)]
 
-ghost use Rattle.std.specs.Prelude.{◌≡◌, ◌≤◌, ◌<◌, ◌+◌, ◌*◌, ◌%◌, pos, nat_abs, take, drop, IfOk};
+ghost use Rattle.std.specs.Prelude.{◌≡◌, ◌≤◌, ◌<◌, ◌+◌, ◌*◌, ◌%◌};
+ghost use Rattle.std.specs.Prelude.{length, Ok, Err, MatchResult, pos, nat_abs, take, drop, IfOk};
 ghost use Rattle.fips204_base.specs.Transforms.{plus};
 ghost use Rattle.fips204_base.specs.Vectors.{IsVector, MatrixWithin, vector_coefficients, vector_of};
+ghost use Rattle.fips204_base.specs.Encodings.{public_key_bytes, private_key_bytes};
 ghost use Rattle.fips204_base.specs.SamplerSteps.{OnSampled};
 ghost use Rattle.fips204_base.specs.Bounds.{IsResidueVector, VectorWithin};
 ghost use Rattle.fips204_base.specs.Residues.{residue};
@@ -11,11 +13,13 @@ ghost use Rattle.fips204.specs.Keys.{high_part, key_vector, low_part};
 ghost use Rattle.fips204.specs.ParameterSets.{public_key_length};
 ghost use Rattle.fips204.specs.Refusals.{generated, derived, Draws};
 ghost use Rattle.fips204.specs.Sets.{set_of};
+ghost use Rattle.fips204.specs.SigningInputs.{pair_of};
 
+use crate::sets::{HasSet, KeySizes, Matrix, Set};
 use crate::traits::{CryptoRngCore, draw};
-use crate::types::{Params, PrivateKey, PublicKey, R, R0, T};
+use crate::types::{KG, Params, PrivateKey, PublicKey, R, R0, T};
 use fips204_base::Fault;
-use fips204_base::encodings::pk_encode;
+use fips204_base::encodings::{pk_encode, sk_encode};
 use fips204_base::hashing::write_expanded_s;
 use fips204_base::helpers::full_reduce32;
 use fips204_base::high_low::write_power2round;
@@ -28,7 +32,7 @@ use std::marker::PhantomData;
 ///
 /// Errors: `Fault::SamplingLimit` if a sampler reaches its limit.
 ///
-/// `K` and `L` are those of the set, and `PK_LEN` is the length of its public keys.
+/// `K` and `L` are those of the parameter set, and `PK_LEN` is the length of its public keys.
 pub fn key_gen_internal<const K: usize, const L: usize, const PK_LEN: usize, H: Xof, G: Xof>(
     p: &Params,
     xi: &[u8; 32],
@@ -38,42 +42,117 @@ pub fn key_gen_internal<const K: usize, const L: usize, const PK_LEN: usize, H: 
     requires size { PK_LEN ≡ public_key_length (set_of p.now) }
     ensures { result ≡ generated (set_of p.now) H.front G.front xi.now }
 {
-    // (rho, rho', K) = H(xi || k || l)
-    let seeds = hash::<H, 128>(&[xi.as_slice(), &[p.k as u8], &[p.l as u8]]);
-    let rho: [u8; 32] = seed_at(&seeds, 0);
-    let rho_prime: [u8; 64] = seed_at(&seeds, 32);
     // both keys, of which each part is written in its place
     let mut public = PublicKey {
-        rho,
+        rho: [0; 32],
         tr: [0; 64],
         t1: [R0; K],
         streams: PhantomData,
     };
     let mut private = PrivateKey {
-        rho,
-        cap_k: seed_at(&seeds, 96),
+        rho: [0; 32],
+        cap_k: [0; 32],
         tr: [0; 64],
         s1: [R0; L],
         s2: [R0; K],
         t0: [R0; K],
         streams: PhantomData,
     };
-    // (s1, s2) = ExpandS(rho')
-    write_expanded_s::<K, L, H>(p.eta, &rho_prime, &mut private.s1, &mut private.s2)?;
-    // A = ExpandA(rho), t = A s1 + s2, (t1, t0) = Power2Round(t)
-    write_key_parts::<K, L, G>(
+    let (rho, cap_k) = write_vectors::<K, L, H, G>(
         p,
-        &rho,
-        &private.s1,
-        &private.s2,
+        xi,
+        &mut private.s1,
+        &mut private.s2,
         &mut public.t1,
         &mut private.t0,
     )?;
+    public.rho = rho;
+    private.rho = rho;
+    private.cap_k = cap_k;
     // tr = H(pkEncode(rho, t1))
     let pk: [u8; PK_LEN] = pk_encode(&rho, &public.t1);
     public.tr = hash::<H, 64>(&[pk.as_slice()]);
     private.tr = public.tr;
     Ok((public, private))
+}
+
+impl<
+    S,
+    const K: usize,
+    const L: usize,
+    const PK_LEN: usize,
+    const SK_LEN: usize,
+    H: Xof,
+    G: Xof,
+> KG<K, L, H, G>
+where
+    Matrix<K, L>: HasSet<Set = S>,
+    S: Set<PublicKey = [u8; PK_LEN], PrivateKey = [u8; SK_LEN]> + KeySizes<K, L, PK_LEN, SK_LEN>,
+{
+    /// Makes the key pair of a seed (Algorithm 6), and writes the bytes of both keys (Algorithms 22 and 24): what
+    /// `into_bytes` returns for the keys of `keygen_from_seed`, in less stack, since no key is a value here.
+    ///
+    /// Errors: `Fault::SamplingLimit` if rejection sampling reaches its limit; nothing is written then.
+    #[inline(never)]
+    pub fn write_pair(
+        xi: &[u8; 32],
+        public_key: &mut [u8],
+        private_key: &mut [u8],
+    ) -> Result<(), Fault>
+        requires room { (length public_key.old ≡ PK_LEN) × (length private_key.old ≡ SK_LEN) }
+        ensures { MatchResult (generated S.set H.front G.front xi.now)
+            (λ (pk, sk). (public_key.new ≡ public_key_bytes pk.rho pk.t1)
+            × (private_key.new ≡ private_key_bytes S.set.eta sk) × (result ≡ Ok tt))
+            (λ fault. (public_key.new ≡ public_key.old) × (private_key.new ≡ private_key.old) × (result ≡ Err fault)) }
+    {
+        let p = S::params();
+        let (mut s1, mut s2) = ([R0; L], [R0; K]);
+        let (mut t1, mut t0) = ([R0; K], [R0; K]);
+        let (rho, cap_k) = write_vectors::<K, L, H, G>(&p, xi, &mut s1, &mut s2, &mut t1, &mut t0)?;
+        // pk = pkEncode(rho, t1)
+        let public: [u8; PK_LEN] = pk_encode(&rho, &t1);
+        public_key.copy_from_slice(&public);
+        // tr = H(pk)
+        let tr = hash::<H, 64>(&[public.as_slice()]);
+        // sk = skEncode(rho, K, tr, s1, s2, t0)
+        let private: [u8; SK_LEN] = sk_encode(p.eta, &rho, &cap_k, &tr, &s1, &s2, &t0);
+        private_key.copy_from_slice(&private);
+        Ok(())
+    }
+}
+
+/// Writes the vectors of the keys of the seed `xi`, and returns their seeds rho and K (Algorithm 6, lines 1 to 6).
+/// `K` and `L` are those of the parameter set.
+///
+/// Errors: `Fault::SamplingLimit` if a sampler reaches its limit.
+fn write_vectors<const K: usize, const L: usize, H: Xof, G: Xof>(
+    p: &Params,
+    xi: &[u8; 32],
+    s1: &mut [R; L],
+    s2: &mut [R; K],
+    t1: &mut [R; K],
+    t0: &mut [R; K],
+) -> Result<([u8; 32], [u8; 32]), Fault>
+    requires rows { K ≡ p.now.k }
+    requires columns { L ≡ p.now.l }
+    ensures keys { MatchResult result
+        (λ (rho, key). generated (set_of p.now) H.front G.front xi.now
+        ≡ Ok (pair_of H.front rho key s1.new s2.new t1.new t0.new))
+        (λ fault. generated (set_of p.now) H.front G.front xi.now ≡ Err fault) }
+    ensures first { IfOk result (λ _. IsVector L (nat_abs p.now.eta) (nat_abs p.now.eta) s1.new) }
+    ensures second { IfOk result (λ _. IsVector K (nat_abs p.now.eta) (nat_abs p.now.eta) s2.new) }
+    ensures high { IfOk result (λ _. IsVector K 0 1023 t1.new) }
+    ensures low { IfOk result (λ _. IsVector K 4095 4096 t0.new) }
+{
+    // (rho, rho', K) = H(xi || k || l)
+    let seeds = hash::<H, 128>(&[xi.as_slice(), &[p.k as u8], &[p.l as u8]]);
+    let rho: [u8; 32] = seed_at(&seeds, 0);
+    let rho_prime: [u8; 64] = seed_at(&seeds, 32);
+    // (s1, s2) = ExpandS(rho')
+    write_expanded_s::<K, L, H>(p.eta, &rho_prime, s1, s2)?;
+    // A = ExpandA(rho), t = A s1 + s2, (t1, t0) = Power2Round(t)
+    write_key_parts::<K, L, G>(p, &rho, s1, s2, t1, t0)?;
+    Ok((rho, seed_at(&seeds, 96)))
 }
 
 /// The `N` bytes from `at` on.
@@ -85,7 +164,7 @@ fn seed_at<const N: usize>(bytes: &[u8; 128], at: usize) -> [u8; N]
 }
 
 /// Writes the high part `t1` and the low part `t0` of `A s1 + s2` (Algorithm 6, lines 3 to 6) for the matrix of
-/// `rho`. Coefficients of `s1` and `s2` are in `[-eta, eta]`, and `K` and `L` are those of the set.
+/// `rho`. Coefficients of `s1` and `s2` are in `[-eta, eta]`, and `K` and `L` are those of the parameter set.
 ///
 /// Errors: `Fault::SamplingLimit` if the matrix reaches its limit.
 pub(super) fn write_key_parts<const K: usize, const L: usize, G: Xof>(
@@ -113,7 +192,7 @@ pub(super) fn write_key_parts<const K: usize, const L: usize, G: Xof>(
 }
 
 /// Writes the high part of `A s1 + s2` with the matrix at hand. Coefficients of `s1` and `s2` are in `[-eta, eta]`, and
-/// `K` and `L` are those of the set.
+/// `K` and `L` are those of the parameter set.
 pub(crate) fn write_high_part<const K: usize, const L: usize>(
     p: &Params,
     a_hat: &[[T; L]; K],
@@ -136,8 +215,8 @@ pub(crate) fn write_high_part<const K: usize, const L: usize>(
 }
 
 /// Writes `t = A s1 + s2` (Algorithm 6, lines 3 and 5) for the matrix of `rho`, with coefficients from 0 to
-/// `q - 1`. Those of `s1` and `s2` are below `q` in absolute value, and `K` and `L` are those of a set. Refuses
-/// with `Fault::SamplingLimit` where the matrix passes its limit.
+/// `q - 1`. Those of `s1` and `s2` are below `q` in absolute value, and `K` and `L` are those of a parameter set.
+/// Returns `Fault::SamplingLimit` where the matrix passes its limit.
 fn write_key_vector<const K: usize, const L: usize, G: Xof>(
     rho: &[u8; 32],
     s1: &[R; L],

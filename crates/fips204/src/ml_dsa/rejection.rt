@@ -1,14 +1,15 @@
 //! The rejection checks of an attempt of signing (FIPS 204, Algorithm 7, lines 18 to 32).
 #![tactic(auto)]
 
-ghost use Rattle.std.specs.Prelude.{◌≡◌, ◌<◌, ◌≤◌, ◌+◌, ◌-◌, ◌*◌, ◌%◌, ℕ, pos, nat_abs, nat_lt, Ok, Some, length};
+ghost use Rattle.std.specs.Prelude.{◌≡◌, ◌≢◌, ◌<◌, ◌≤◌, ◌+◌, ◌-◌, ◌*◌, ◌%◌, ℕ, pos, nat_abs, nat_lt, length};
+ghost use Rattle.std.specs.Prelude.{Ok, Some, true};
 ghost use Rattle.fips204_base.specs.Residues.{centred, vector_norm, residue};
 ghost use Rattle.fips204_base.specs.Encodings.{all_ones};
 ghost use Rattle.fips204_base.specs.Vectors.{vector_coefficients, vector_of};
 ghost use Rattle.fips204_base.specs.Bounds.{VectorWithin};
 ghost use Rattle.fips204_base.specs.Transforms.{minus, plus};
 ghost use Rattle.fips204_base.specs.Rounding.{IsGamma2, low_bits};
-ghost use Rattle.fips204.specs.SigningInputs.{AreCheckInputs, hint_bit, checked_attempt};
+ghost use Rattle.fips204.specs.SigningInputs.{AreCheckInputs, attempted, hint_bit, checked_attempt};
 ghost use Rattle.fips204.specs.Sets.{set_of};
 
 use super::signing::SigningKey;
@@ -20,12 +21,12 @@ use fips204_base::maps::write_zip_vectors;
 use fips204_base::product::{Factor, Products};
 
 impl<'a, const K: usize, const L: usize, H, G> SigningKey<'a, K, L, H, G> {
-    /// The signature of an attempt with mask `y`, `w = A y`, `c_tilde` and challenge, or `None` where one of the
-    /// checks rejects it.
+    /// Writes the signature of an attempt with mask `y`, `w = A y`, `c_tilde` and challenge. Returns false, and writes
+    /// nothing, where one of the checks rejects it.
     ///
     /// Coefficients of `y` are in `[1 - gamma1, gamma1]`, those of `w` and `c` below `q` in absolute value.
-    /// `K`, `L`, `SIG_LEN` and the length of `c_tilde` are those of the set. Uses `w` and `rows` up, so that no
-    /// further vector is in the stack. Not inlined, so that what it needs leaves the stack before the next attempt.
+    /// `K`, `L`, `SIG_LEN` and the length of `c_tilde` are those of the parameter set. Uses `w` and `rows` up, so that
+    /// no further vector is in the stack. Not inlined, so that what it needs leaves the stack before the next attempt.
     #[inline(never)]
     pub(crate) fn rejection_checks<const SIG_LEN: usize>(
         &self,
@@ -35,10 +36,12 @@ impl<'a, const K: usize, const L: usize, H, G> SigningKey<'a, K, L, H, G> {
         rows: &mut [R; K],
         c_tilde: &[u8],
         c: &R,
-    ) -> Option<[u8; SIG_LEN]>
+        signature: &mut [u8; SIG_LEN],
+    ) -> bool
         requires inputs { AreCheckInputs p.now K L SIG_LEN c_tilde.now y.now w.old c.now }
-        ensures { Ok result
+        ensures answer { attempted signature.new (Ok result)
             ≡ checked_attempt (set_of p.now) self.now.parts y.now (vector_coefficients w.old) c_tilde.now (Some c.now) }
+        ensures kept { result ≢ true → signature.new ≡ signature.old }
     {
         // c_hat = NTT(c)
         let c_hat = Factor::of(c);
@@ -49,29 +52,28 @@ impl<'a, const K: usize, const L: usize, H, G> SigningKey<'a, K, L, H, G> {
         products.write_first(&mut z);
         write_centred_sum(&mut z, y);
         if !has_norm_below(&z, p.z_bound()) {
-            return None;
+            return false;
         }
         // r0 = LowBits(w - c s2), with a norm below gamma2 - beta
         products.write_second(rows);
         write_difference(w, rows);
         write_low_vector(p.gamma2, w, rows);
         if !has_norm_below(rows, p.r0_bound()) {
-            return None;
+            return false;
         }
         // c t0, with a norm below gamma2
         products.write_other(&key.t0_hat, rows);
         if !has_norm_below(rows, p.gamma2 as u32) {
-            return None;
+            return false;
         }
         // h = MakeHint(-c t0, w - c s2 + c t0), with at most omega ones
         write_hint(p.gamma2, w, rows);
         if number_of_ones(rows) > p.omega as usize {
-            return None;
+            return false;
         }
         // sigEncode(c_tilde, z, h)
-        let mut signature = [0u8; SIG_LEN];
-        write_signature(p.gamma1, p.omega, c_tilde, &z, rows, &mut signature);
-        Some(signature)
+        write_signature(p.gamma1, p.omega, c_tilde, &z, rows, signature);
+        true
     }
 }
 

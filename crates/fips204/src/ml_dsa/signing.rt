@@ -1,11 +1,13 @@
 //! Signing (FIPS 204, Algorithm 7, with the limit of attempts of Appendix C).
 #![tactic(auto)]
 
-ghost use Rattle.std.specs.Prelude.{◌≡◌, ◌≤◌};
+ghost use Rattle.std.specs.Prelude.{◌≡◌, ◌≤◌, nat_abs};
+ghost use Rattle.fips204_base.specs.Encodings.{ArePrivateParts};
 ghost use Rattle.fips204.specs.Completeness.{AcceptedIfWholePlain};
 ghost use Rattle.fips204.specs.Framing.{represented};
 ghost use Rattle.fips204.specs.Inputs.{input_of};
 ghost use Rattle.fips204.specs.Prepared.{sign_prepared};
+ghost use Rattle.fips204.specs.Refusals.{Writes};
 ghost use Rattle.fips204.specs.SigningInputs.{AreKeyTransforms};
 ghost use Rattle.fips204.specs.Sets.{HasSizes, set_of};
 ghost use Rattle.fips204.specs.Signing.{sign, sign_with};
@@ -42,13 +44,12 @@ impl<'a, const K: usize, const L: usize, H, G> Model for SigningKey<'a, K, L, H,
 }
 
 /// `ML-DSA.Sign_internal` (Algorithm 7) from `mu` and `rnd`: returns the signature of the first of 814
-/// attempts that is not rejected. If the key is whole, that signature verifies.
+/// attempts that is not rejected. If the key is consistent, that signature verifies.
 ///
 /// Errors: `Fault::SamplingLimit` if the matrix, or the challenge of an attempt before any that signs,
 /// reaches its limit; `Fault::TooManyAttempts` if all attempts are rejected.
 ///
-/// `K`, `L` and `SIG_LEN` are those of the set.
-#[tactic(auto, using(crate::proofs::ParameterSets::matrix_room))]
+/// `K`, `L` and `SIG_LEN` are those of the parameter set.
 pub fn sign_internal<const K: usize, const L: usize, const SIG_LEN: usize, H: Xof, G: Xof>(
     p: &Params,
     sk: &PrivateKey<K, L, H, G>,
@@ -58,6 +59,29 @@ pub fn sign_internal<const K: usize, const L: usize, const SIG_LEN: usize, H: Xo
     requires sizes { HasSizes (set_of p.now) K L SIG_LEN }
     ensures answer { result ≡ sign (set_of p.now) H.front G.front sk.now mu.now rnd.now }
     ensures accepted { AcceptedIfWholePlain (set_of p.now) H.front G.front sk.now (represented mu.now) result }
+{
+    let mut signature = [0u8; SIG_LEN];
+    write_signature::<K, L, SIG_LEN, H, G>(p, sk, mu, rnd, &mut signature)?;
+    Ok(signature)
+}
+
+/// Writes what `sign_internal` returns. After an error `signature` is as it was. That the key's parts are in range is
+/// told to the caller, whose array the key is in.
+///
+/// Not inlined, so that the matrix is in the stack only while the key signs.
+#[inline(never)]
+#[tactic(auto, using(crate::proofs::ParameterSets::matrix_room))]
+pub(crate) fn write_signature<const K: usize, const L: usize, const SIG_LEN: usize, H: Xof, G: Xof>(
+    p: &Params,
+    sk: &PrivateKey<K, L, H, G>,
+    mu: &[u8; 64],
+    rnd: &[u8; 32],
+    signature: &mut [u8; SIG_LEN],
+) -> Result<(), Fault>
+    requires sizes { HasSizes (set_of p.now) K L SIG_LEN }
+    ensures answer { Writes (sign (set_of p.now) H.front G.front sk.now mu.now rnd.now)
+        signature.old signature.new result }
+    ensures parts { ArePrivateParts (nat_abs p.now.eta) K L sk.now }
 {
     prove!(K <= 8 && L <= 7);
     // A = ExpandA(rho)
@@ -70,7 +94,7 @@ pub fn sign_internal<const K: usize, const L: usize, const SIG_LEN: usize, H: Xo
         a_hat: &a_hat,
         transforms: &transforms,
     };
-    key.sign_with::<SIG_LEN>(p, mu, rnd)
+    key.sign_with(p, mu, rnd, signature)
 }
 
 impl<const K: usize, const L: usize, H, G> PrivateKey<K, L, H, G> {
@@ -86,32 +110,36 @@ impl<const K: usize, const L: usize, H, G> PrivateKey<K, L, H, G> {
 }
 
 impl<'a, const K: usize, const L: usize, H: Xof, G> SigningKey<'a, K, L, H, G> {
-    /// Signs an input with the random bytes `rnd`.
+    /// Writes the signature of an input with the random bytes `rnd`. After an error `signature` is as it was.
     ///
     /// Errors: those of the input; then those of `sign_with`.
-    pub(crate) fn sign_input<const SIG_LEN: usize>(
+    pub(crate) fn write_signature<const SIG_LEN: usize>(
         &self,
         p: &Params,
         input: &Input<'_>,
         rnd: &[u8; 32],
-    ) -> Result<[u8; SIG_LEN], Fault>
+        signature: &mut [u8; SIG_LEN],
+    ) -> Result<(), Fault>
         requires sizes { HasSizes (set_of p.now) K L SIG_LEN }
-        ensures { result ≡ sign_prepared (set_of p.now) H.front self.now rnd.now (input_of input.now) }
+        ensures { Writes (sign_prepared (set_of p.now) H.front self.now rnd.now (input_of input.now))
+            signature.old signature.new result }
     {
         let key = self.key;
         let mu = mu_of::<H>(&key.tr, input)?;
-        self.sign_with::<SIG_LEN>(p, &mu, rnd)
+        self.sign_with(p, &mu, rnd, signature)
     }
 
-    /// `sign_internal` with the matrix at hand (lines 7 to 33).
-    pub(crate) fn sign_with<const SIG_LEN: usize>(
+    /// `write_signature` of a plain key with the matrix at hand (lines 7 to 33).
+    fn sign_with<const SIG_LEN: usize>(
         &self,
         p: &Params,
         mu: &[u8; 64],
         rnd: &[u8; 32],
-    ) -> Result<[u8; SIG_LEN], Fault>
+        signature: &mut [u8; SIG_LEN],
+    ) -> Result<(), Fault>
         requires sizes { HasSizes (set_of p.now) K L SIG_LEN }
-        ensures { result ≡ sign_with (set_of p.now) H.front self.now.matrix self.now.parts mu.now rnd.now }
+        ensures { Writes (sign_with (set_of p.now) H.front self.now.matrix self.now.parts mu.now rnd.now)
+            signature.old signature.new result }
     {
         // rho'' = H(K || rnd || mu)
         let key = self.key;
@@ -119,8 +147,8 @@ impl<'a, const K: usize, const L: usize, H: Xof, G> SigningKey<'a, K, L, H, G> {
         for n in 0..MAX_SIGN_ATTEMPTS {
             // kappa = n l
             let kappa = n * L as u16;
-            if let Some(signature) = self.attempt::<SIG_LEN>(p, mu, &mask_seed, kappa)? {
-                return Ok(signature);
+            if self.attempt(p, mu, &mask_seed, kappa, signature)? {
+                return Ok(());
             }
         }
         Err(Fault::TooManyAttempts)

@@ -32,7 +32,7 @@ use fips204_base::xof::Xof;
 
 /// `ML-DSA.Verify_internal` (Algorithm 8) from `mu`: returns true if and only if the signature is accepted.
 ///
-/// `K`, `L` and `SIG_LEN` are those of the set.
+/// `K`, `L` and `SIG_LEN` are those of the parameter set.
 pub fn verify_internal<const K: usize, const L: usize, const SIG_LEN: usize, H: Xof, G: Xof>(
     p: &Params,
     pk: &PublicKey<K, L, H, G>,
@@ -125,7 +125,7 @@ pub(crate) fn verify_by_bytes<const K: usize, const L: usize, H: Xof>(
 /// Whether `c_tilde` commits to `mu` and `w1' = UseHint(h, A z - c t1 2^d)` (lines 9 to 13). Uses `A z` up.
 ///
 /// `c_hat` and `t1_hat` are what `c` and `t1 2^d` are multiplied as. Coefficients of `h` are 0 or 1, and `K` is that of
-/// the set.
+/// the parameter set.
 fn is_committed<const K: usize, H: Xof>(
     p: &Params,
     mu: &[u8; 64],
@@ -189,7 +189,7 @@ fn open_signature<'a, const K: usize, const L: usize, H: Xof>(
 
 /// Writes `w1' = UseHint(h, w)` (line 10) over `w`.
 ///
-/// Coefficients of `w` are below `q` in absolute value, those of `h` 0 or 1. `K` is that of the set.
+/// Coefficients of `w` are below `q` in absolute value, those of `h` 0 or 1. `K` is that of the parameter set.
 fn write_hinted<const K: usize>(p: &Params, h: &[R; K], w: &mut [R; K])
     requires rows { K ≡ p.now.k }
     requires range { VectorWithin K 8380416 w.old }

@@ -1,4 +1,4 @@
-//! Whether a private key is whole (FIPS 204, Algorithm 6, lines 3 to 6), and half of a pair.
+//! Whether a private key is consistent (FIPS 204, Algorithm 6, lines 3 to 6), and half of a pair.
 #![tactic(auto)]
 
 ghost use Rattle.std.specs.Prelude.{◌≡◌};
@@ -29,12 +29,12 @@ pub(crate) fn is_whole<const K: usize, const L: usize, H, G: Xof>(
     Ok(sk.t0 == t0)
 }
 
-/// Tells whether a private key and the public key derived from it are a pair: whether the private key is whole,
+/// Tells whether a private key and the public key derived from it are a pair: whether the private key is consistent,
 /// and its `tr` is the hash of the bytes of that public key.
 ///
 /// Errors: `Fault::SamplingLimit` if the matrix of `rho` reaches its limit.
 ///
-/// `PK_LEN` is the length of the set's public keys.
+/// `PK_LEN` is the length of the parameter set's public keys.
 pub(crate) fn is_pair<const K: usize, const L: usize, const PK_LEN: usize, H: Xof, G: Xof>(
     p: &Params,
     sk: &PrivateKey<K, L, H, G>,

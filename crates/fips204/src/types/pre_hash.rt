@@ -3,8 +3,8 @@
 //! Each is named by its object identifier in DER: tag 06, the number of the bytes that follow, and these
 //! bytes. All twelve identifiers are below 2.16.840.1.101.3.4.2.
 //!
-//! A digest has to be as strong as the set: at least 32 bytes at ML-DSA-44, 48 at -65 and 64 at -87. Shorter ones are
-//! not refused.
+//! A digest has to be as strong as the parameter set: at least 32 bytes at ML-DSA-44, 48 at -65 and 64 at -87. Shorter
+//! ones are not rejected.
 #![tactic(auto)]
 
 ghost use Rattle.std.specs.Prelude.{◌≡◌};

@@ -29,7 +29,7 @@ impl KeyTransforms {
     }
 }
 
-/// A private key of a set with a matrix of `K` rows and `L` columns, over the stream `H`, with its matrix and
+/// A private key of a parameter set with a matrix of `K` rows and `L` columns, over the XOF `H`, with its matrix and
 /// the transforms of its vectors.
 ///
 /// Contracts see it as the private key's parts and the matrix, whose entries are the transforms of the plain matrix.
@@ -56,13 +56,13 @@ impl<const K: usize, const L: usize, H> Model for PreparedPrivateKey<K, L, H> {
         × AreKeyTransforms K L sk.key sk.transforms };
 }
 
-/// A public key of a set with a matrix of `K` rows and `L` columns, over the stream `H`, with its matrix and the
+/// A public key of a parameter set with a matrix of `K` rows and `L` columns, over the XOF `H`, with its matrix and the
 /// transforms of `t1 2^d`.
 ///
 /// Contracts see it as the public key's parts and the matrix, whose entries are the transforms of the plain matrix.
 #[derive(Drop)]
 pub struct PreparedPublicKey<const K: usize, const L: usize, H> {
-    // The plain key's parts, one by one: a whole key would first be put together in the stack beside this one.
+    // The plain key's parts, one by one: an entire key would first be put together in the stack beside this one.
     pub(crate) rho: [u8; 32],
     pub(crate) tr: [u8; 64],
     pub(crate) t1: [R; K],

@@ -74,7 +74,7 @@ pub(crate) fn write_unpacked_hint<const K: usize>(
     Some(())
 }
 
-/// Writes the places of the ones from `from` on, and answers where they end.
+/// Writes the places of the ones from `from` on, and returns where they end.
 fn write_places(w: &R, y: &mut [u8], from: usize) -> usize
     requires { from + length (ones w.now) ≤ length y.old }
     ensures end { result ≡ from + length (ones w.now) }

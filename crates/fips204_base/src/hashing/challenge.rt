@@ -1,4 +1,4 @@
-//! The challenge, from the stream in the place of SHAKE256.
+//! The challenge, from the XOF in the place of SHAKE256.
 #![tactic(auto)]
 
 ghost use Rattle.std.specs.Prelude.{◌≡◌, ◌<◌, ◌≤ℤ◌, pos, nat_abs, ok_or, slice_index};
@@ -23,7 +23,7 @@ fn sign_at(bytes: &[u8; 8], k: usize) -> i32
 /// `tau` is from 1 to 64.
 ///
 /// Errors: `SamplingLimit` if rejection sampling reaches its limit: if the bytes after the first eight, a
-/// quarter as many as the front has, give fewer than `tau` places.
+/// quarter as many as the output has, give fewer than `tau` places.
 pub fn sample_in_ball<H: Xof>(tau: i32, rho: &[u8]) -> Result<R, Fault>
     requires tau { (pos 1 ≤ℤ tau) × (tau ≤ℤ pos 64) }
     ensures { result ≡ ok_or (challenge (nat_abs tau) (H.front rho.now)) Fault.SamplingLimit }

@@ -1,4 +1,4 @@
-//! The mask, from the stream in the place of SHAKE256.
+//! The mask, from the XOF in the place of SHAKE256.
 #![tactic(auto)]
 
 ghost use Rattle.std.specs.Prelude.{◌≡◌, ◌≤◌, ◌<◌, ◌+◌, ◌*◌, ◌++◌, length, nat_abs, Some};
@@ -15,7 +15,7 @@ use crate::hashing::sampler::Sampler;
 use crate::types::{R, R0};
 use crate::xof::Xof;
 
-/// How many bytes a polynomial of the mask takes of its front.
+/// How many bytes a polynomial of the mask takes of its output.
 fn size_of_polynomial(gamma1: i32) -> usize
     requires { IsGamma1 gamma1 }
     ensures size { result ≡ 32 * mask_width (nat_abs gamma1) }

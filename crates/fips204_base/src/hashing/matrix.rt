@@ -1,4 +1,4 @@
-//! The matrix, as it is sampled from the stream in the place of SHAKE128.
+//! The matrix, as it is sampled from the XOF in the place of SHAKE128.
 #![tactic(auto)]
 
 ghost use Rattle.std.specs.Prelude.{◌≡◌, ◌≤◌, ◌<◌, ◌+◌, ◌*◌, ◌/◌, ◌%◌, ◌++◌, ◌∷◌, [], ℕ, ℤ, pos, ◌<ℤ◌, true, length, map, ok_or, slice_index, slice_index_or, IfOk, MatchResult, ⊤};
@@ -16,8 +16,8 @@ use crate::types::{T, T0};
 use crate::xof::{Xof, XofReader};
 use std::simd::{u8x16, u32x4};
 
-/// The numbers of the four triples at the front of 16 bytes, without the top bit of each: those that CoeffFromThreeBytes
-/// (Algorithm 14) keeps where they are below `q`.
+/// The numbers of the four triples at the start of 16 bytes, without the top bit of each: those that
+/// CoeffFromThreeBytes (Algorithm 14) keeps where they are below `q`.
 #[inline(always)]
 fn four_numbers(bytes: u8x16) -> [i32; 4]
     requires { (j : ℕ) → j < 16 → slice_index bytes j < 256 }
@@ -31,7 +31,7 @@ fn four_numbers(bytes: u8x16) -> [i32; 4]
     numbers.cast::<i32>().to_array()
 }
 
-/// Writes the numbers of four triples from number `first` on, which stand at the front of 16 bytes.
+/// Writes the numbers of four triples from number `first` on, which stand at the start of 16 bytes.
 #[inline(always)]
 fn write_four_numbers(bytes: &[u8], first: usize, values: &mut [i32; 256])
     requires long { length bytes.now ≡ 16 }
@@ -71,7 +71,7 @@ fn are_below_q(values: &[i32; 256]) -> bool
 }
 
 /// Puts the coefficients that 256 triples give into `values`, and returns how many there are. Mostly each triple gives one: so
-/// their numbers are written side by side first, and only where one is too large those that are not are moved to the front.
+/// their numbers are written side by side first, and only where one is too large are the others moved to the start.
 fn write_first_triples(triples: &[u8], values: &mut [i32; 256]) -> usize
     requires { length triples.now ≡ 768 }
     ensures count { result ≤ 256 }
@@ -134,7 +134,7 @@ impl Draws for Triples {
 /// `RejNTTPoly` (Algorithm 30): a matrix entry from the concatenated `parts`.
 ///
 /// Errors: `SamplingLimit` if rejection sampling reaches its limit: if as many triples as a quarter of the
-/// front has bytes give fewer than 256 coefficients.
+/// output has bytes give fewer than 256 coefficients.
 pub fn rej_ntt_poly<G: Xof>(parts: &[&[u8]]) -> Result<T, Fault>
     ensures { result ≡ ok_or (matrix_entry (G.front (flat_map (λ part. part.now) parts.now))) Fault.SamplingLimit }
 {
@@ -147,7 +147,7 @@ pub fn rej_ntt_poly<G: Xof>(parts: &[&[u8]]) -> Result<T, Fault>
     Ok(entry)
 }
 
-/// Writes the matrix entry of a front whose first 256 triples are in `first`. `reader` gives the others.
+/// Writes the matrix entry of an output whose first 256 triples are in `first`. `reader` gives the others.
 fn write_entry<G: Xof>(first: &[u8], reader: &mut G::Reader, entry: &mut T) -> Result<(), Fault>
     requires first { length first.now ≡ 768 }
     requires front { length first.now + length (G.Reader.rest reader.old) ≡ G.FRONT }

@@ -1,4 +1,4 @@
-//! What is sampled from fronts, a value of each.
+//! What is sampled from outputs of XOFs, a value of each.
 #![tactic(auto)]
 
 ghost use Rattle.std.specs.Prelude.{◌≡◌, ◌≤◌, ◌<◌, ◌+◌, ◌*◌, ◌/◌, ◌++◌, ℕ, ℤ, List, Option, length, take, drop, MatchResult};
@@ -7,7 +7,7 @@ ghost use Rattle.fips204_base.specs.SamplerSteps.{WritesEach, WritesSampled};
 use crate::fault::Fault;
 use crate::xof::{Xof, XofReader, sampling_limit};
 
-/// The sampler of one vector or matrix: each of its values has a number, and is made of the front of a seed of its own.
+/// The sampler of one vector or matrix: each of its values has a number, and is made of the output of its own seed.
 pub(crate) trait Sampler<X: Xof> {
     type Value;
 
@@ -21,21 +21,21 @@ pub(crate) trait Sampler<X: Xof> {
 
     ghost made: { Self → List ℕ → Option Self.Value };
 
-    /// How many bytes of each front are read first.
+    /// How many bytes of each output are read first.
     fn size(&self) -> usize
         requires { is_sampler self.now }
         ensures size { result ≡ size self.now }
         ensures most { result ≤ 768 };
 
-    /// Opens the reader of the front that value `n` is made of.
+    /// Opens the reader of the output that value `n` is made of.
     fn open(&self, n: usize) -> X::Reader
         requires sampler { is_sampler self.now }
         requires number { has_number self.now n }
         ensures { X.Reader.rest result ≡ X.front (seed self.now n) };
 
-    /// Writes the value of a front whose first bytes are in `first`. `reader` gives the others.
+    /// Writes the value of an output whose first bytes are in `first`. `reader` gives the others.
     ///
-    /// Errors: `SamplingLimit` if the front has none.
+    /// Errors: `SamplingLimit` if the output has none.
     fn write(
         &self,
         first: &[u8],
@@ -117,7 +117,7 @@ pub(crate) trait Sampler<X: Xof> {
     }
 }
 
-/// Rejection sampling of 256 coefficients: each draw takes `bytes` bytes of a front, and what it gives is kept or not.
+/// Rejection sampling of 256 coefficients: each draw takes `bytes` bytes of an output; what it gives is kept or not.
 pub(crate) trait Draws {
     ghost is_kind: { Self → Type 0 };
 
@@ -133,7 +133,7 @@ pub(crate) trait Draws {
         ensures bytes { result ≡ bytes self.now }
         ensures most { result ≤ 3 };
 
-    /// The number of draws that nearly every front takes.
+    /// The number of draws that nearly every output takes.
     fn first(&self) -> usize
         ensures first { result ≡ first self.now }
         ensures most { result ≤ 1024 };
@@ -163,9 +163,9 @@ pub(crate) trait Draws {
             → take count values.old ≡ take 256 (kept self.now front tried)
             → take result values.new ≡ take 256 (kept self.now front (tried + n)) };
 
-    /// Writes the first 256 coefficients of a front whose first ones are in `draws`. `reader` gives the others.
+    /// Writes the first 256 coefficients of an output whose first ones are in `draws`. `reader` gives the others.
     ///
-    /// Errors: `SamplingLimit` if as many draws as a quarter of the front has bytes give fewer.
+    /// Errors: `SamplingLimit` if as many draws as a quarter of the output has bytes give fewer.
     final fn fill<X: Xof>(
         &self,
         draws: &[u8],

@@ -1,4 +1,4 @@
-//! Small polynomials, from the stream in the place of SHAKE256.
+//! Small polynomials, from the XOF in the place of SHAKE256.
 #![tactic(auto)]
 
 ghost use Rattle.std.specs.Prelude.{◌≡◌, ◌≤◌, ◌<◌, ◌+◌, ◌++◌, ◌⊎◌, length, nat_abs, ok_or, IfOk, IfErr, Some, None};
@@ -92,7 +92,7 @@ impl Draws for HalfBytes {
 /// `parts`. `eta` is 2 or 4.
 ///
 /// Errors: `SamplingLimit` if rejection sampling reaches its limit: if the half bytes of the first quarter of
-/// the front give fewer than 256 coefficients.
+/// the output give fewer than 256 coefficients.
 pub fn rej_bounded_poly<H: Xof>(eta: i32, parts: &[&[u8]]) -> Result<R, Fault>
     requires eta { IsEta eta }
     ensures { result
@@ -107,7 +107,7 @@ pub fn rej_bounded_poly<H: Xof>(eta: i32, parts: &[&[u8]]) -> Result<R, Fault>
     Ok(polynomial)
 }
 
-/// Writes the small polynomial of a front whose first 192 bytes are in `first`. `reader` gives the others.
+/// Writes the small polynomial of an output whose first 192 bytes are in `first`. `reader` gives the others.
 fn write_polynomial<H: Xof>(
     eta: i32,
     first: &[u8],

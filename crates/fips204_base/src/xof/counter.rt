@@ -9,7 +9,7 @@ use crate::xof::XofReader;
 use sha2::Digest;
 use std::marker::{Model, PhantomData};
 
-/// A hash function with digests of `N` bytes, for a stream in counter mode.
+/// A hash function with digests of `N` bytes, for an XOF in counter mode.
 pub trait BlockHash<const N: usize> {
     ghost hash: { List ℕ → List ℕ };
 
@@ -23,9 +23,9 @@ pub trait BlockHash<const N: usize> {
 /// A reader of blocks: block `i` is the digest of a seed followed by `i` as four bytes, the lowest first. It
 /// holds one block, and computes the next one when a byte of it is read.
 ///
-/// For a stream of your own use this as the `Reader` of your `Xof`, and open it by `new` with `FRONT / N`
+/// For an XOF of your own use this as the `Reader` of your `Xof`, and open it by `new` with `FRONT / N`
 /// blocks. `Sha256` and `Sha512` of the crate `sha2` implement `BlockHash`; implement it for another hash
-/// function. The front is `counter_blocks`, and `length-counter_blocks` is its length.
+/// function. The output is `counter_blocks`, and `length-counter_blocks` is its length.
 #[derive(Drop)]
 pub struct BlockReader<H: BlockHash<N>, const N: usize> {
     hash: PhantomData<H>,
@@ -88,7 +88,7 @@ impl<H: BlockHash<N>, const N: usize> BlockReader<H, N> {
         }
     }
 
-    /// Fills the front of `out` with bytes of one block, and returns how many these are.
+    /// Fills the start of `out` with bytes of one block, and returns how many these are.
     #[inline(always)]
     fn read_run(&mut self, out: &mut [u8]) -> usize
         requires wanted { 0 < length out.old }

@@ -1,4 +1,4 @@
-//! A reader of a front held in an array.
+//! A reader of an output held in an array.
 #![tactic(auto)]
 
 ghost use Rattle.std.specs.Prelude.{◌≡◌};
@@ -6,9 +6,9 @@ ghost use Rattle.std.specs.Prelude.{◌≡◌};
 use crate::xof::XofReader;
 use std::marker::Model;
 
-/// A reader of a front of `N` bytes, which it holds.
+/// A reader of an output of `N` bytes, which it holds.
 ///
-/// For a stream with a short front write a function that fills the array, use this as the `Reader` of your
+/// For an XOF with a short output write a function that fills the array, use this as the `Reader` of your
 /// `Xof`, and open it by `new`.
 #[derive(Drop)]
 pub struct FrontReader<const N: usize> {

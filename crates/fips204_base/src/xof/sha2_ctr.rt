@@ -66,7 +66,7 @@ impl Xof for Sha256Ctr {
     }
 }
 
-/// The stream with the blocks of `Sha256Ctr`, 512 of them: its front has 16384 bytes.
+/// The XOF with the blocks of `Sha256Ctr`, 512 of them: its output has 16384 bytes.
 pub struct Sha256CtrLong;
 
 impl Xof for Sha256CtrLong {
@@ -113,7 +113,7 @@ impl Xof for Sha512Ctr {
     }
 }
 
-/// The stream with the blocks of `Sha512Ctr`, 256 of them: its front has 16384 bytes.
+/// The XOF with the blocks of `Sha512Ctr`, 256 of them: its output has 16384 bytes.
 pub struct Sha512CtrLong;
 
 impl Xof for Sha512CtrLong {

@@ -14,7 +14,7 @@ type Private44 = ml_dsa_44::PrivateKey<Fill<0x55>, Fill<0>>;
 type Public44 = ml_dsa_44::PublicKey<Fill<0x55>, Fill<0>>;
 
 /// The key pair of each set with `H` of bytes 55 and `G` of bytes 00, byte for byte, for any seed, and what its calls
-/// return; private keys come back from their bytes, and are whole.
+/// return; private keys come back from their bytes, and are consistent.
 #[test]
 fn pairs_of_each_set(rt: HostRuntime) -> Result<(), Fail> {
     at_each_set::<Fill<0x55>, Fill<0>, Calls>(&rt, &Calls(7), &[ALL; 3])?;
@@ -108,12 +108,12 @@ fn field_ranges_of_each_set(rt: HostRuntime) -> Result<(), Fail> {
     at_each_set::<Fill<0x55>, Fill<0>, FieldRanges>(&rt, &FieldRanges, &wanted)
 }
 
-/// Whether the private key of 32 bytes 07 is whole with these bits changed in a byte.
+/// Whether the private key of 32 bytes 07 is consistent with these bits changed in a byte.
 fn whole<S: TestSet>(at: usize, bits: u8) -> Result<bool, Fault> {
     Ok(S::read_again(S::pair(&[7; 32])?, at, bits)?[1])
 }
 
-/// Whether that key is whole, and with another bit in K, `tr`, and the first and last byte of t0.
+/// Whether that key is consistent, and with another bit in K, `tr`, and the first and last byte of t0.
 struct WholeWithBits;
 
 impl Suite for WholeWithBits {
@@ -126,8 +126,8 @@ impl Suite for WholeWithBits {
     }
 }
 
-/// A generated key of each set is whole, also with another bit in K or `tr`. With one in the first or the last byte of
-/// t0 it is not.
+/// A generated key of each set is consistent, also with another bit in K or `tr`. With one in the first or the last
+/// byte of t0 it is not.
 #[test]
 fn whole_keys_of_each_set(rt: HostRuntime) -> Result<(), Fail> {
     let wanted = [[true, true, true, false, false].map(Ok); 3];
@@ -158,7 +158,7 @@ fn hashes_of_public_keys(rt: HostRuntime) {
     assert_eq!(rt; (hashes(), derived), (Ok([[0x55; 64]; 3]), wanted));
 }
 
-/// Whether the recorded private key is whole with this t0, and whether its public key is the recorded one.
+/// Whether the recorded private key is consistent with this t0, and whether its public key is the recorded one.
 fn with_low_parts(part: [u8; 13]) -> Result<[bool; 2], Fault> {
     let mut bytes = private_44();
     repeat(&mut bytes[896..], &part);
@@ -167,7 +167,7 @@ fn with_low_parts(part: [u8; 13]) -> Result<[bool; 2], Fault> {
     Ok([private.is_whole()?, public == public_44()])
 }
 
-/// `get_public_key` does not look at t0, with which the key is no longer whole.
+/// `get_public_key` does not look at t0, with which the key is no longer consistent.
 #[test]
 fn public_key_of_a_key_with_other_low_parts(rt: HostRuntime) {
     let found = [[0u8; 13], *LOW_0].map(with_low_parts);

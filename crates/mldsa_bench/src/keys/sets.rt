@@ -128,7 +128,7 @@ pub const MESSAGES: [&[u8]; 5] = [b"", b"a", b"abc", b"another", &[7; 300]];
 /// Random bytes for each, no two alike.
 pub const SEEDS: [[u8; 32]; 5] = [[0; 32], [1; 32], [2; 32], [3; 32], [0xff; 32]];
 
-/// Whether an answer is this value, or its refusal.
+/// Whether a result is this value, or its error.
 pub fn is_same<T: PartialEq + Drop>(answer: Result<T, Fault>, wanted: &T) -> Result<bool, Fault> {
     Ok(answer? == *wanted)
 }
@@ -189,10 +189,10 @@ impl<H: Xof, G: Xof> Row<Plain<8, 7, H, G>, 4896> for MlDsa87 {
     ghost fits = { Prim.search rules };
 }
 
-/// Set 44 over constant streams.
+/// ML-DSA-44 over constant XOFs.
 pub type Constant44 = ml_dsa_44::KG<Fill<0x55>, Fill<0>>;
 
-/// A set over two streams.
+/// A parameter set over two XOFs.
 pub trait TestSet {
     /// The bytes of a signature.
     type Signature: Copy + PartialEq + Drop;
@@ -203,16 +203,17 @@ pub trait TestSet {
     /// Prepared keys.
     type Prepared: Keys<Self::Signature> + Drop;
 
-    /// The keys and the signature over constant streams, of their bytes.
+    /// The keys and the signature over constant XOFs, of their bytes.
     fn constant() -> Result<(Self::Plain, Self::Signature), Fault>;
 
-    /// Whether keys are those over constant streams, or their refusal.
+    /// Whether keys are those over constant XOFs, or their error.
     fn is_constant(keys: Result<Self::Plain, Fault>) -> Result<bool, Fault>;
 
-    /// Whether the public key of the private one is that over constant streams.
+    /// Whether the public key of the private one is that over constant XOFs.
     fn derives_constant(keys: &Self::Plain) -> Result<bool, Fault>;
 
-    /// With these bits changed in a byte of the private key: whether it has its bytes again, and whether it is whole.
+    /// With these bits changed in a byte of the private key: whether it has its bytes again, and whether it is
+    /// consistent.
     fn read_again(keys: Self::Plain, at: usize, bits: u8) -> Result<[bool; 2], Fault>;
 
     /// Both keys of a seed.
@@ -224,7 +225,7 @@ pub trait TestSet {
     /// Both keys with their matrix.
     fn prepared(keys: &Self::Plain) -> Result<Self::Prepared, Fault>;
 
-    /// The refusals to prepare the public key and the private key.
+    /// The errors of preparing the public key and the private key.
     fn refusals(keys: &Self::Plain) -> [Option<Fault>; 2];
 
     /// Signs the first messages under a context, with one call: as many as `answers` has room for, at most five.
@@ -344,7 +345,7 @@ pub trait Suite {
         requires { number < 3 };
 }
 
-/// Fails unless a suite finds this at each set over these streams. No suite names a type of each set, since it takes the
+/// Fails unless a suite finds this at each set over these XOFs. No suite names a type of each set, since it takes the
 /// prover seconds.
 pub fn at_each_set<H: Xof, G: Xof, X: Suite>(
     rt: &impl Abort,

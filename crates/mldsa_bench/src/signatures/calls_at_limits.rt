@@ -166,8 +166,8 @@ fn keys_that_never_sign(rt: HostRuntime) -> Result<(), Fail> {
     at_each_set::<Fill<0>, Fill<0>, FaultsOfPair>(&rt, &FaultsOfPair, &wanted)
 }
 
-/// Coefficient 255 of the product of the challenge with another first polynomial of t0; and with it, what refuses to
-/// sign, and whether the public key is derived as over constant XOFs.
+/// Coefficient 255 of the product of the challenge with another first polynomial of t0; and with it, the errors of
+/// signing, and whether the public key is derived as over constant XOFs.
 fn with_large_low_parts() -> Result<(i32, [Option<Fault>; 2], bool), Fault> {
     let R(c) = sample_in_ball::<Fill<0x55>>(39, &[0x55; 32])?;
     let (mut low, mut fields) = ([2i32; 256], [4094; 256]);

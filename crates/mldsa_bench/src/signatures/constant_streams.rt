@@ -36,7 +36,8 @@ static INPUTS: [(Input, Option<Fault>); 20] = [
 ];
 
 /// Whether each call that signs an input gives this signature, with random bytes that are given and with drawn ones, and
-/// it is accepted; or all refuse so, ask no generator, and it is not accepted. A hook that is not hedged draws none.
+/// it is accepted; or all return this error, ask no generator, and it is not accepted. A hook that is not hedged draws
+/// none.
 fn answers<S: PartialEq + Drop, K: Keys<S>>(
     keys: &K,
     (input, fault): (&Input, Option<Fault>),
@@ -58,7 +59,7 @@ fn answers<S: PartialEq + Drop, K: Keys<S>>(
     signed == [wanted; 4] && accepted == fault.is_none() && rng.asked == draws
 }
 
-/// The first input, and else the first refused digest, that has another result: the table and the row.
+/// The first input, and else the first rejected digest, that has another result: the table and the row.
 fn first_wrong<S: PartialEq + Drop, K: Keys<S>>(keys: &K, signature: &S) -> Option<(u8, usize)> {
     for (row, (input, fault)) in INPUTS.iter().enumerate() {
         if !answers(keys, (input, *fault), signature) {

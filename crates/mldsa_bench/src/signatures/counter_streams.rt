@@ -1,4 +1,4 @@
-//! Key pairs and signatures over the counter streams, at each set, with plain and with prepared keys; and how a message
+//! Key pairs and signatures over the counter XOFs, at each set, with plain and with prepared keys; and how a message
 //! and a digest are framed.
 #![tactic(auto)]
 
@@ -55,7 +55,7 @@ fn sign_so<S: TestSet, K: Keys<S::Signature>>(
     ]
 }
 
-/// The signature of an input with 32 bytes 00, and what plain and prepared keys answer of it.
+/// The signature of an input with 32 bytes 00, and what plain and prepared keys return for it.
 fn signed<S: TestSet>(input: &Input) -> Result<(S::Signature, [[bool; 6]; 2]), Fault> {
     let keys = S::pair(&[0; 32])?;
     let prepared = S::prepared(&keys)?;
@@ -72,7 +72,7 @@ fn have_pairs<S: TestSet>(alloc: Global, texts: [&str; 3]) -> Result<[[bool; 2];
     Ok([given, S::have_texts(alloc, drawn, texts)?])
 }
 
-/// Whether the pairs and the signatures are as recorded; and what plain and prepared keys answer of these.
+/// Whether the pairs and the signatures are as recorded; and what plain and prepared keys return for these.
 #[derive(Drop)]
 struct Bytes(Global);
 
@@ -92,7 +92,7 @@ impl Suite for Bytes {
     }
 }
 
-/// Key pairs and signatures of a message and a digest over both kinds of counter streams, byte for byte or by SHA-256,
+/// Key pairs and signatures of a message and a digest over both kinds of counter XOFs, byte for byte or by SHA-256,
 /// with seeds of 32 bytes 00 given or drawn, by plain and prepared keys; another message, context or bit is rejected.
 #[test]
 fn bytes_of_each_set(rt: HostRuntime) -> Result<(), Fail> {
@@ -103,8 +103,8 @@ fn bytes_of_each_set(rt: HostRuntime) -> Result<(), Fail> {
     at_each_set::<Sha256CtrLong, Sha512CtrLong, Bytes>(&rt, &suite, &wanted)
 }
 
-/// Whether the message `00` is signed with the generator's next answer as this text says, by SHA-256; or, without a text,
-/// whether the generator's refusal is the answer.
+/// Whether the message `00` is signed with the generator's next result as this text says, by SHA-256; or, without a
+/// text, whether the generator's error is the result.
 fn signs_next<S: TestSet, K: Keys<S::Signature>>(
     alloc: Global,
     keys: &K,
@@ -121,7 +121,7 @@ fn signs_next<S: TestSet, K: Keys<S::Signature>>(
     }
 }
 
-/// Whether three calls sign in turn with the answers of a list that has a refusal at this place, and the list is then
+/// Whether three calls sign in turn with the entries of a list that has an error at this place, and the list is then
 /// used up.
 fn signs_in_turn<S: TestSet, K: Keys<S::Signature>>(
     alloc: Global,
@@ -157,7 +157,7 @@ fn signs_in_turn<S: TestSet, K: Keys<S::Signature>>(
     Ok(found)
 }
 
-/// What `signs_in_turn` finds with a refusal at this place, with plain and with prepared keys.
+/// What `signs_in_turn` finds with an error at this place, with plain and with prepared keys.
 #[derive(Drop)]
 struct InTurn(Global, usize);
 
@@ -177,7 +177,7 @@ impl Suite for InTurn {
     }
 }
 
-/// Two signatures with two draws from a list, which refuses before, between or after them, and then has no more answers.
+/// Two signatures with two draws from a list, which fails before, between or after them, and then has no more entries.
 #[test]
 fn draws_from_a_list(rt: HostRuntime) -> Result<(), Fail> {
     for refused in 0..3usize {
@@ -204,7 +204,7 @@ fn single_calls<S: TestSet>(
     Ok((signatures, verdicts))
 }
 
-/// Whether so many messages are signed with one call as these signatures, and refused under a context of 256 bytes.
+/// Whether so many messages are signed with one call as these signatures, and rejected under a context of 256 bytes.
 fn sign_each_as<S: TestSet>(
     alloc: Global,
     keys: &S::Prepared,
@@ -219,8 +219,8 @@ fn sign_each_as<S: TestSet>(
     Ok([signed, refused])
 }
 
-/// A list of the first messages, so many: whether it is signed and refused as by single calls, and which signatures are
-/// accepted by single calls, with one call, under a context of 256 bytes, and with another bit in the third.
+/// A list of the first messages, so many: whether it is signed and rejected as by single calls, and which signatures
+/// are accepted by single calls, with one call, under a context of 256 bytes, and with another bit in the third.
 #[derive(Drop)]
 struct Lists(Global, usize);
 
@@ -305,7 +305,7 @@ impl Suite for Framed {
     }
 }
 
-/// The framed message `00 02 61 62 63`, and the 47 bytes of a framed digest, by the hooks over the counter streams, with
+/// The framed message `00 02 61 62 63`, and the 47 bytes of a framed digest, by the hooks over the counter XOFs, with
 /// plain and prepared keys.
 #[test]
 fn hooks_take_framed_messages(rt: HostRuntime) -> Result<(), Fail> {

@@ -44,7 +44,7 @@ fn identifiers_and_lengths(rt: HostRuntime) {
 /// An identifier of no hash that is known here.
 const UNKNOWN: &[u8] = &[0x06, 0x03, 0x2a, 0x03, 0x04];
 
-/// Digests that are refused, with their identifiers, and why.
+/// Digests that are rejected, with their identifiers, and why.
 pub static REFUSED_DIGESTS: [(&[u8], &[u8], Fault); 13] = [
     (&[0; 32], &[], OidEmpty),
     (&[0; 32], &[0xff], OidNotDer),

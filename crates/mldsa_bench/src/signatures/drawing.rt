@@ -1,5 +1,5 @@
-//! Calls that draw: a generator that refuses at the first, the second or the third of four, and one that answers from a
-//! list.
+//! Calls that draw: a generator that fails at the first, the second or the third of four, and one that gives what is in
+//! a list.
 #![tactic(auto)]
 
 ghost use Rattle.std.specs.Prelude.{◌≡◌};
@@ -11,9 +11,9 @@ use fips204::xof::Fill;
 use fips204::{Fault, Input, RngError};
 use std::test::Fail;
 
-/// A generator that refuses at one call, counted from 0, and every call that asks for another number of
+/// A generator that fails at one call, counted from 0, and every call that asks for another number of
 /// bytes than 32; it gives 32 bytes 07 to every other. Where it `writes`, it has written over `out` before
-/// it refuses. It notes whether `out` ever held anything but zeros.
+/// it fails. It notes whether `out` ever held anything but zeros.
 #[derive(Clone, Copy)]
 pub struct RefusesAt {
     pub call: u8,
@@ -56,8 +56,8 @@ impl CryptoRngCore for RefusesAt {
     }
 }
 
-/// A generator that answers from a list, one entry a call: 32 bytes, or a refusal. It refuses every call that asks for
-/// another number of bytes, and every call after the list. It counts the calls that the list answers.
+/// A generator that gives what is in a list, one entry a call: 32 bytes, or an error. It fails every call that asks for
+/// another number of bytes, and every call after the list. It counts the calls that the list serves.
 #[derive(Drop)]
 pub struct Listed<'a> {
     pub answers: &'a [Option<[u8; 32]>],
@@ -88,7 +88,7 @@ impl CryptoRngCore for Listed<'_> {
     }
 }
 
-/// What is signed with drawn bytes, and the refusal that stands for the generator's.
+/// What is signed with drawn bytes, and the error that stands for the generator's.
 static DRAWN: [(Input, Fault); 6] = [
     (Input::Message(b"abc", &[]), Fault::SignRng),
     (Input::Message(b"abc", &[1; 255]), Fault::SignRng),
@@ -105,7 +105,7 @@ fn is_wanted(answer: Result<bool, Fault>, refused: bool, fault: Fault) -> bool {
     answer == if refused { Err(fault) } else { Ok(true) }
 }
 
-/// Whether four signatures of each input are made, but for the one whose generator refuses, each of one call of the
+/// Whether four signatures of each input are made, but for the one whose generator fails, each of one call of the
 /// generator, which is handed zeros.
 fn draws<S: PartialEq + Drop, K: Keys<S>>(keys: &K, signature: &S, refusing: RefusesAt) -> bool {
     for (input, fault) in &DRAWN {
@@ -134,7 +134,7 @@ fn draws_pairs<S: TestSet>(pair_call: PairCall, refusing: RefusesAt) -> bool {
     rng.asked == 4 && !rng.saw_a_value
 }
 
-/// Whether every call of a set that draws answers so: three for pairs, those of plain keys, and those of prepared ones.
+/// Whether every call of a set that draws does so: three for pairs, those of plain keys, and those of prepared ones.
 impl Suite for RefusesAt {
     type Answer = [bool; 5];
 
@@ -152,7 +152,7 @@ impl Suite for RefusesAt {
 }
 
 /// At each set every drawing call, plain and prepared, with a generator that fails at its first, second or third of four
-/// calls: that call's error; the others sign as over constant streams. It is asked four times, with zeros to fill.
+/// calls: that call's error; the others sign as over constant XOFs. It is asked four times, with zeros to fill.
 #[test]
 fn refusing_generators(rt: HostRuntime) -> Result<(), Fail> {
     for call in 0..3u8 {
@@ -177,7 +177,7 @@ fn generator_that_looks(rt: HostRuntime) {
     assert_eq!(rt; found, [[true, false], [true, true], [false, true]]);
 }
 
-/// `DummyRng` asked for 0, 31, 32 and 33 bytes: it refuses all but 32, and leaves the others as they were.
+/// `DummyRng` asked for 0, 31, 32 and 33 bytes: it fails for all but 32, and leaves the others as they were.
 #[test]
 fn generator_of_one_seed(rt: HostRuntime) {
     let mut rng = DummyRng { bytes: [7; 32] };

@@ -25,7 +25,7 @@ fn signs(file: &[u8], signature: &[u8; SIG_LEN]) -> Result<bool, LoadFault> {
     Ok(signed(&key) == Ok(*signature))
 }
 
-/// A file with another byte of its set, and with another byte of its version too.
+/// A file with another byte of its parameter set, and with another byte of its version too.
 fn with_headers<const N: usize>(mut file: [u8; N]) -> [[u8; N]; 2]
     requires { 2 ≤ N }
 {

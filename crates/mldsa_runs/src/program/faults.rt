@@ -7,7 +7,7 @@ use mldsa_engine::RunFault;
 use std::test::Fail;
 
 /// A key is printed with its hash. Upper-case hex is read, and printed in lower case. What follows the last expected
-/// line stays unread, and a last line without LF is read. Lines of another length, and none, are refused. A letter past
+/// line stays unread, and a last line without LF is read. Lines of another length, and none, are errors. A letter past
 /// f, a carriage return, a space, `0x` and an odd number of digits are `not hex`.
 #[test]
 fn lines_that_are_read_or_refused(rt: HostRuntime) -> Result<(), Fail> {
@@ -71,7 +71,7 @@ fn words_that_are_no_call(rt: HostRuntime) -> Result<(), Fail> {
     Ok(())
 }
 
-/// Errors of the library. `keygen` passes its limit at each set. `sign` refuses a key out of range before a context of
+/// Errors of the library. `keygen` passes its limit at each set. `sign` rejects a key out of range before a context of
 /// 256 bytes, and this by itself too, but a missing line before both; with a field at the end of its range a key signs.
 /// `check` says yes, or too many attempts, or a long context, and before that the error of key generation. `verify`
 /// says no over a key without a matrix, and a fifth line stays unread; of a signature of 2419 bytes, a fault, 4841

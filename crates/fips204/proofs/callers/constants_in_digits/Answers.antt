@@ -35,10 +35,10 @@ pub returns-clause-shake : goal.returns-clause-shake
 returns-clause-shake c = c.constants.ensures.values.shake.0
 
 pub returns-clause-public_key : goal.returns-clause-public_key
-returns-clause-public_key c = c.constants.ensures.lengths.public_keys.0
+returns-clause-public_key c = c.constants.ensures.lengths.public_keys
 
 pub returns-clause-private_key : goal.returns-clause-private_key
-returns-clause-private_key c = unfold bit_length in c.constants.ensures.lengths.private_keys.0
+returns-clause-private_key c = unfold bit_length in c.constants.ensures.lengths.private_keys
 
 pub returns-clause-signature : goal.returns-clause-signature
-returns-clause-signature c = unfold bit_length in c.constants.ensures.lengths.signatures.0
+returns-clause-signature c = unfold bit_length in c.constants.ensures.lengths.signatures

@@ -1,8 +1,11 @@
-use Rattle.std.proofs.Common.{rules}
-use Rattle.fips204.proofs.Names.{input_of}
-use Rattle.fips204.proofs.SeedKeys.{input_accepted}
+use Rattle.std.proofs.Common.{rules, ◌≡◌, ◌∙◌, Err}
+use Rattle.fips204.proofs.Writing.{written, not_written}
 use Rattle.fips204.proofs.keys.PrivateKeySigner.sign_input.Goals as goal
 
-pub returns-clause-accepted : goal.returns-clause-accepted
-returns-clause-accepted g c =
-    input_accepted g.S.Set.set g.H.Xof.front g.G.Xof.front c.args.self.now (input_of c.args.input.now) c.in_ok-mu.mu c.sign_mu_with_seed.result (search rules) c.sign_mu_with_seed.ensures.accepted
+pub returns-in_err-write_signature-clause-answer : goal.returns-in_err-write_signature-clause-answer
+returns-in_err-write_signature-clause-answer g c =
+    let refused : c.from_residual.result ≡ Err c.in_err-write_signature.field-0.0 = search rules in
+    refused ∙ not_written _ _ _ _ c.in_err-write_signature.ensures.answer
+
+pub returns-clause-answer : goal.returns-clause-answer
+returns-clause-answer g c = written _ _ _ c.in_ok-write_signature.ensures.answer

@@ -1,4 +1,4 @@
-use Rattle.std.proofs.Common.{rules, arith, ◌∙◌}
+use Rattle.std.proofs.Common.{rules, ◌∙◌}
 use Rattle.fips204.proofs.Names.{vector-within, vector_of-ext, set_of}
 use Rattle.fips204.proofs.ParameterSets.{eta-small, matrix-shape}
 use Rattle.fips204.proofs.KeyGeneration.{key_parts-are, high_part-range, key_sum}

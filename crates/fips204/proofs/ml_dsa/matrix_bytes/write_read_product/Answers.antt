@@ -1,4 +1,4 @@
-use Rattle.std.proofs.Common.{arith, refl, rules, ◌≡◌, ◌≢◌, ◌∙◌, ◌<◌, ◌+◌, ◌-◌, ◌*◌, ℕ, [], None, length, set, get_or, replicate}
+use Rattle.std.proofs.Common.{arith, refl, rules, ◌≡◌, ◌≢◌, ◌∙◌, ◌<◌, ◌+◌, ◌-◌, ◌*◌, [], None, length, set, replicate}
 use Rattle.std.proofs.lemmas.List.{length-replicate, get_or-set_same, get_or-set_other}
 use native.Mathlib.Decide.{dec_lt}
 use Rattle.fips204_base.specs.PlainTransforms.{row_product}

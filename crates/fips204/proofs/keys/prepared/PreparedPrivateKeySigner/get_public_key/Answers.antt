@@ -1,5 +1,5 @@
-use Rattle.std.proofs.Common.{arith, rules, refl, ◌≡◌, subst, Ok}
-use Rattle.fips204.proofs.Names.{HasSizes, PreparedPrivate, PreparedPublic, public_of_prepared, set_of}
+use Rattle.std.proofs.Common.{arith, rules}
+use Rattle.fips204.proofs.Names.{HasSizes, set_of}
 use Rattle.fips204.proofs.ParameterSets.{known-set, parts_at_set}
 use Rattle.fips204.proofs.keys.prepared.PreparedPrivateKeySigner.get_public_key.Goals as goal
 

@@ -1,17 +1,11 @@
-use Rattle.std.proofs.Common.{rules, arith, ap, subst}
-use Rattle.fips204.proofs.Names.{PrivateParts, ArePrivateParts, PreparedPrivate, HasSizes, input_of, set_of}
-use Rattle.fips204.proofs.ParameterSets.{parts_at_set}
-use Rattle.fips204.proofs.Prepared.{signed_accepted}
+use Rattle.std.proofs.Common.{rules, ◌≡◌, ◌∙◌, Err}
+use Rattle.fips204.proofs.Writing.{written, not_written}
 use Rattle.fips204.proofs.keys.prepared.PreparedPrivateKeySigner.sign_input.Goals as goal
 
-pub sign_input-requires : goal.sign_input-requires
-sign_input-requires g c =
-    let sizes : HasSizes (set_of c.params.result) g.row.K g.row.L g.row.SIG_LEN = rw c.params.ensures g.met.S.SignatureSizes.sizes in
-    search rules
+pub returns-in_err-write_signature-clause-answer : goal.returns-in_err-write_signature-clause-answer
+returns-in_err-write_signature-clause-answer g c =
+    let refused : c.from_residual.result ≡ Err c.in_err-write_signature.field-0.0 = search rules in
+    refused ∙ not_written _ _ _ _ c.in_err-write_signature.ensures.answer
 
-pub returns-clause-accepted : goal.returns-clause-accepted
-returns-clause-accepted g c =
-    let sizes = g.met.S.SignatureSizes.sizes in
-    signed_accepted g.S.Set.set g.H.Xof.front g.row.K g.row.L c.args.self.now c.args.seed.now (input_of c.args.input.now) c.sign_input.result g.S.Set.known
-    (λ input. omega (arith, g.met.H.Xof.front_size input, g.met.H.Xof.front_least)) sizes.rows sizes.columns
-    (subst (λ (k : PrivateParts). ArePrivateParts g.S.Set.set.eta g.row.K g.row.L k) (ap (λ (k : PreparedPrivate). k.parts) c.self.view_is) (parts_at_set g.S.Set.set _ _ _ g.S.Set.known sizes.rows c.self.invariant.1)) (search rules)
+pub returns-clause-answer : goal.returns-clause-answer
+returns-clause-answer g c = written _ _ _ c.in_ok-write_signature.ensures.answer

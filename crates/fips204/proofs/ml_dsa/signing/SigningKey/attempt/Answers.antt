@@ -51,15 +51,14 @@ sample_in_ball-requires g c =
     let known = limits c.args.p.now (search rules) in
     rw (to_z-of_z w32 c.args.p.now.tau (search rules)) record { tau = (known.some_signs, known.few_signs) }
 
-pub returns-in_err-c : goal.returns-in_err-c
-returns-in_err-c g c =
+pub returns-in_err-c-clause-answer : goal.returns-in_err-c-clause-answer
+returns-in_err-c-clause-answer g c =
     let p = c.args.p.now in
     let front = g.H.Xof.front c.write_commitment_hash.new.c_tilde in
     let sampled : Err c.in_err-c.field-0.0 ≡ ok_or (challenge (nat_abs p.tau) front) SamplingLimit = rw (to_z-of_z w32 p.tau (search rules)) at c.in_err-c.ensures in
     let none = (none_of_err (challenge (nat_abs p.tau) front) c.in_err-c.field-0.0 sampled).0 in
     let refused : c.from_residual.result ≡ Err SamplingLimit = search rules in
-    refused
-    ∙ sym (whole g (goal.at.returns-in_err-c g c).After-write_commitment_hash ∙ checked_attempt-limit (set_of p) c.args.self.now.parts c.expand_mask-y.result (vector_coefficients c.write_matrix_product.new.out) c.write_commitment_hash.new.c_tilde _ none)
+    rw refused (sym (whole g (goal.at.returns-in_err-c-clause-answer g c).After-write_commitment_hash ∙ checked_attempt-limit (set_of p) c.args.self.now.parts c.expand_mask-y.result (vector_coefficients c.write_matrix_product.new.out) c.write_commitment_hash.new.c_tilde _ none))
 
 pub rejection_checks-requires : goal.rejection_checks-requires
 rejection_checks-requires g c =
@@ -93,11 +92,14 @@ rejection_checks-requires g c =
       ),
     )
 
-pub returns : goal.returns
-returns g c =
+pub returns-clause-answer : goal.returns-clause-answer
+returns-clause-answer g c =
     let p = c.args.p.now in
     let front = g.H.Xof.front c.write_commitment_hash.new.c_tilde in
     let sampled : Ok c.in_ok-c.c ≡ ok_or (challenge (nat_abs p.tau) front) SamplingLimit = rw (to_z-of_z w32 p.tau (search rules)) at c.in_ok-c.ensures in
     let there = some_of_ok (challenge (nat_abs p.tau) front) c.in_ok-c.c sampled in
-    c.rejection_checks.ensures
-    ∙ sym (whole g (goal.at.returns g c).After-write_commitment_hash ∙ ap (checked_attempt (set_of p) c.args.self.now.parts c.expand_mask-y.result (vector_coefficients c.write_matrix_product.new.out) c.write_commitment_hash.new.c_tilde) there)
+    c.rejection_checks.ensures.answer
+    ∙ sym (whole g (goal.at.returns-clause-answer g c).After-write_commitment_hash ∙ ap (checked_attempt (set_of p) c.args.self.now.parts c.expand_mask-y.result (vector_coefficients c.write_matrix_product.new.out) c.write_commitment_hash.new.c_tilde) there)
+
+pub returns-clause-kept : goal.returns-clause-kept
+returns-clause-kept g c = λ rejected. c.rejection_checks.ensures.kept (λ yes. rejected (ap Ok yes))

@@ -1,5 +1,4 @@
 use Rattle.std.proofs.Common.{rules, arith, ◌≡◌, ◌∙◌, ◌-◌, length, Ok, Some, sym, ap, refl, nat_abs, w32, nat_lt}
-use Rattle.std.proofs.lemmas.List.{length-replicate}
 use Rattle.fips204.proofs.Names.{to_z-of_z, ints, lt-leb, le-leb, all_ones, vector_norm, vector_coefficients, response, low_vector, ct0, hint_vector, set_of}
 use Rattle.fips204.proofs.RejectionChecks.{IsDifference, multiple-equal, by_tests, response-is, difference-is, low-is, ct0-is, hint-is, response-range, hint-range}
 use Rattle.fips204.proofs.ParameterSets.{limits, rounding-some, signature-shape}
@@ -57,28 +56,28 @@ write_hint-requires g c =
 pub overflow_cast-p-2 : goal.overflow_cast-p-2
 overflow_cast-p-2 g c = omega (arith, ints, (limits c.args.p.now (search rules)).some_ones)
 
-pub returns-then-not-has_norm_below : goal.returns-then-not-has_norm_below
-returns-then-not-has_norm_below g c =
-    let at = goal.at.returns-then-not-has_norm_below g c in
+pub returns-then-not-has_norm_below-clause-answer : goal.returns-then-not-has_norm_below-clause-answer
+returns-then-not-has_norm_below-clause-answer g c =
+    let at = goal.at.returns-then-not-has_norm_below-clause-answer g c in
     rw (sym c.self.view_is) (by_tests _ _ _ _ _ _
     (sym c.if-not-has_norm_below.true ∙ first g at.After-has_norm_below) refl refl refl)
 
-pub returns-then-not-has_norm_below-2 : goal.returns-then-not-has_norm_below-2
-returns-then-not-has_norm_below-2 g c =
-    let at = goal.at.returns-then-not-has_norm_below-2 g c in
+pub returns-then-not-has_norm_below-2-clause-answer : goal.returns-then-not-has_norm_below-2-clause-answer
+returns-then-not-has_norm_below-2-clause-answer g c =
+    let at = goal.at.returns-then-not-has_norm_below-2-clause-answer g c in
     rw (sym c.self.view_is) (by_tests _ _ _ _ _ _
     (sym c.if-not-has_norm_below.false ∙ first g at.After-has_norm_below) (sym c.if-not-has_norm_below-2.true ∙ second g at.After-has_norm_below-2) refl refl)
 
-pub returns-then-not-has_norm_below-3 : goal.returns-then-not-has_norm_below-3
-returns-then-not-has_norm_below-3 g c =
-    let at = goal.at.returns-then-not-has_norm_below-3 g c in
+pub returns-then-not-has_norm_below-3-clause-answer : goal.returns-then-not-has_norm_below-3-clause-answer
+returns-then-not-has_norm_below-3-clause-answer g c =
+    let at = goal.at.returns-then-not-has_norm_below-3-clause-answer g c in
     rw (sym c.self.view_is) (by_tests _ _ _ _ _ _
     (sym c.if-not-has_norm_below.false ∙ first g at.After-has_norm_below) (sym c.if-not-has_norm_below-2.false ∙ second g at.After-has_norm_below-2)
     (sym c.if-not-has_norm_below-3.true ∙ third g at.After-has_norm_below-3) refl)
 
-pub returns-then-number_of_ones-p : goal.returns-then-number_of_ones-p
-returns-then-number_of_ones-p g c =
-    let at = goal.at.returns-then-number_of_ones-p g c in
+pub returns-then-number_of_ones-p-clause-answer : goal.returns-then-number_of_ones-p-clause-answer
+returns-then-number_of_ones-p-clause-answer g c =
+    let at = goal.at.returns-then-number_of_ones-p-clause-answer g c in
     let count = c.number_of_ones.ensures ∙ ap (λ h. length (all_ones h)) (hint-here g at.After-number_of_ones) in
     rw (sym c.self.view_is) (by_tests _ _ _ _ _ _
     (sym c.if-not-has_norm_below.false ∙ first g at.After-has_norm_below) (sym c.if-not-has_norm_below-2.false ∙ second g at.After-has_norm_below-2)
@@ -93,11 +92,12 @@ write_signature-requires g c =
     let test = sym c.if-not-has_norm_below.false ∙ (rw c.z_bound.ensures at c.has_norm_below.ensures) in
     let response = response-range p _ _ _ _ _ (search rules) gamma1 (response-here g at.After-has_norm_below) test in
     let few = rw c.number_of_ones.ensures at c.if-number_of_ones-p.false in
-    (search rules, (search rules, (shape.set, (shape.some, (shape.hint_size, (length-replicate _ _ ∙ shape.whole, (response, (hint-range _ _ _ _ _ c.write_hint.ensures, few))))))))
+    let room : length c.args.signature.now ≡ g.row.SIG_LEN = search rules in
+    (search rules, (search rules, (shape.set, (shape.some, (shape.hint_size, (room ∙ shape.whole, (response, (hint-range _ _ _ _ _ c.write_hint.ensures, few))))))))
 
-pub returns : goal.returns
-returns g c =
-    let at = goal.at.returns g c in
+pub returns-clause-answer : goal.returns-clause-answer
+returns-clause-answer g c =
+    let at = goal.at.returns-clause-answer g c in
     let omega_is = to_z-of_z w32 c.args.p.now.omega (search rules) in
     let hint = hint-here g at.After-number_of_ones in
     let count = c.number_of_ones.ensures ∙ ap (λ h. length (all_ones h)) hint in

@@ -3,7 +3,7 @@ use Rattle.std.proofs.lemmas.List.{take_all}
 use Rattle.std.specs.Prelude.{Option, MatchOption}
 use Rattle.fips204.specs.PreparedBytes.{IsMatrix, IsPreparedPublicOf, matrix_bytes}
 use Rattle.fips204.proofs.MatrixBytes.{matrix_asks, public_found}
-use Rattle.fips204.proofs.Names.{T, Accepts, HasSizes, PublicParts, PreparedPublic, ArePublicParts, VerifiesPrepared, input_of, public_key_bytes, set_of}
+use Rattle.fips204.proofs.Names.{T, Accepts, HasSizes, PublicParts, PreparedPublic, ArePublicParts, VerifiesPrepared, input_of, set_of}
 use Rattle.fips204.proofs.RefusedCalls.{verified_input, refused_input}
 use Rattle.fips204.proofs.types.prepared.PreparedPublicKey.accepts_by_bytes.Given as given
 use Rattle.fips204.proofs.types.prepared.PreparedPublicKey.accepts_by_bytes.Goals as goal

@@ -1,6 +1,6 @@
 use Rattle.std.proofs.Common.{ℕ, [], ◌∷◌, slice_index, arith}
 use Rattle.std.proofs.lemmas.List.FromFn.{fill_by_all}
-use Rattle.shake.proofs.four.beside.Goals as goal
+use Rattle.shake.proofs.four.write_beside.Goals as goal
 
 pub returns : goal.returns
 returns c =
