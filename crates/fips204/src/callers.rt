@@ -13,6 +13,8 @@ ghost use Rattle.fips204.specs.ParameterSets.{ParameterSet, IsSet, c_tilde_lengt
 ghost use Rattle.fips204.specs.Prepared.{sign_prepared, VerifiesPrepared, PreparedPrivate, PreparedPublic};
 ghost use Rattle.fips204.specs.Prepared.{prepared_private, prepared_public, public_of_prepared, IsWholePrepared};
 ghost use Rattle.fips204.specs.Prepared.{IsEachSigned, IsEachJudged};
+ghost use Rattle.fips204.specs.PreparedBytes.{IsPreparedPublicOf, IsPreparedPrivateOf, prepared_public_bytes};
+ghost use Rattle.fips204.specs.PreparedBytes.{prepared_private_bytes};
 ghost use Rattle.fips204.specs.Refusals.{generated, input_fault, VerifiesInput, derived, sign_input, OnlySamplingLimit};
 ghost use Rattle.fips204.specs.SchemeLaws.{NamesCollision, NamesHintCollision, NamesKeyCollision, Fixes, framing};
 ghost use Rattle.fips204.specs.declared.ml_dsa.signing.TheConstants.{MAX_SIGN_ATTEMPTS};
@@ -46,8 +48,8 @@ ghost use Rattle.fips204_base.specs.declared.types.TheConstants.{R0, T0};
 use crate::laws::{
     binding, challenge_product_bound, constants, counter_fronts, framing, high_bits_stay,
     hint_spelling, hooks, inverse_of_transform, key_bytes, known_set, longer_front,
-    longer_functions, packing, prepared_keys, product_of_transforms, refusals, signature_spelling,
-    signed_is_accepted, use_hint_distance, use_hint_of_make_hint,
+    longer_functions, packing, prepared_bytes, prepared_keys, product_of_transforms, refusals,
+    signature_spelling, signed_is_accepted, use_hint_distance, use_hint_of_make_hint,
 };
 use crate::ml_dsa::key_gen_internal;
 use crate::ml_dsa_44::{
@@ -528,6 +530,22 @@ pub(crate) fn prepared_parts<H: Xof, G: Xof>()
         → derived set_44 G.front sk ≡ Ok pk → prepared_public set_44 G.front pk ≡ Ok (public_of_prepared set_44 key) }
 {
     prepared_keys();
+}
+
+/// How many bytes a prepared key has, and what is read from them.
+pub(crate) fn prepared_key_bytes<G: Xof>()
+    ensures public_length { (pk : PublicParts) (key : PreparedPublic) → ArePublicParts 4 pk
+        → prepared_public set_44 G.front pk ≡ Ok key → length (prepared_public_bytes key) ≡ 17760 }
+    ensures private_length { (sk : PrivateParts) (key : PreparedPrivate) → ArePrivateParts 2 4 4 sk
+        → prepared_private set_44 G.front sk ≡ Ok key → length (prepared_private_bytes 2 key) ≡ 18944 }
+    ensures public { (pk : PublicParts) (key other : PreparedPublic) → ArePublicParts 4 pk
+        → prepared_public set_44 G.front pk ≡ Ok key
+        → IsPreparedPublicOf 4 4 (prepared_public_bytes key) other ↔ (other ≡ key) }
+    ensures private { (sk : PrivateParts) (key other : PreparedPrivate) → ArePrivateParts 2 4 4 sk
+        → prepared_private set_44 G.front sk ≡ Ok key
+        → IsPreparedPrivateOf 2 4 4 (prepared_private_bytes 2 key) other ↔ (other ≡ key) }
+{
+    prepared_bytes();
 }
 
 /// Which errors whole calls have.
