@@ -18,9 +18,12 @@ TABLE = "bench/table.md"
 
 
 def summed(files):
-    """The sum of files of the library, as (name, bytes) in order of names, without comments and empty lines."""
+    """The sum of files of the library, as (name, bytes) in order of names, without comments, empty lines and callers of
+    laws, which nothing calls."""
     total = hashlib.sha256()
     for name, content in sorted(files):
+        if name.endswith("/callers.rt"):
+            continue
         lines = [line for line in content.splitlines() if line.strip() and not line.strip().startswith(b"//")]
         total.update(b"\n".join([name.encode(), *lines, b""]))
     return total.hexdigest()[:8]
