@@ -457,7 +457,7 @@ test("each call leaves an eighth of the module's stack untouched", async () => {
     const base = exports.__heap_base.value;
     const memory = new Uint8Array(exports.memory.buffer);
     const size = memory.findIndex((byte) => byte !== 0); // constants follow the stack
-    assert.equal(size, 320 << 10);
+    assert.equal(size, 256 << 10);
     const [seed, pk, sk, oid] = [[base, 32n], [base + 1024n, 2592n], [base + 4096n, 4896n], [base + 64n, 11n]];
     const signature = [base + 10240n, 4627n];
     memory.set(oids["SHA-256"], Number(oid[0]));

@@ -41,6 +41,10 @@ coefficient_of v r = coefficient_at (slice_index_or v r record { 0 = [] }).0
 abbrev pub Finds : {A : Type 0} → (A → Type 0) → Option A → Type 0
 Finds {A} P answer = MatchOption answer ((x : A) → P x → ⊥) P
 
+-- the same of a result that is written
+abbrev pub FindsIn : {A : Type 0} → (A → Type 0) → Option (Unit {0}) → A → Type 0
+FindsIn {A} P answer written = MatchOption answer ((x : A) → P x → ⊥) (λ _. P written)
+
 -- BitUnpack's result: none where a is 0 and a field is above b, and else the polynomial that the bytes hold
 abbrev pub IsUnpacked : ℤ → ℤ → Bytes → Option R → Type 0
 IsUnpacked a b bytes answer = MatchOption answer

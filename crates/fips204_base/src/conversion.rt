@@ -2,7 +2,7 @@
 //! coefficients asks for.
 #![tactic(auto)]
 
-ghost use Rattle.std.specs.Prelude.{◌≡◌, ◌<◌, ◌≤◌, ◌+◌, ◌*◌, ◌%◌, ◌^◌, ℤ, pos, ◌-ℤ◌, ◌≤ℤ◌, length, map};
+ghost use Rattle.std.specs.Prelude.{◌≡◌, ◌<◌, ◌≤◌, ◌+◌, ◌*◌, ◌%◌, ◌^◌, ℤ, pos, ◌-ℤ◌, ◌≤ℤ◌, length, map, Some, None, MatchOption};
 ghost use Rattle.std.specs.List.{All};
 ghost use Rattle.fips204_base.specs.Packing.{polynomial_bytes, width};
 ghost use Rattle.fips204_base.specs.Bounds.{Bounds, PolynomialInRange, IsUnpacked};
@@ -12,7 +12,7 @@ mod coefficients;
 mod hints;
 
 use crate::helpers::{bit_length, is_in_range};
-use crate::types::R;
+use crate::types::{R, R0};
 pub use coefficients::{coeff_from_half_byte, coeff_from_three_bytes};
 pub(crate) use hints::write_unpacked_hint;
 pub use hints::{hint_bit_pack, hint_bit_unpack};
@@ -189,31 +189,41 @@ pub fn bit_unpack(v: &[u8], a: i32, b: i32) -> Option<R>
     requires room { length v.now ≡ 32 * width a b }
     ensures { IsUnpacked a b v.now result }
 {
-    let c = field_width(a, b) as usize;
-    let mut out = [0i32; 256];
-    for i in 0..32 {
-        write_unpacked_group(&v[c * i..c * i + c], a, b, &mut out[8 * i..8 * i + 8]);
-    }
-    let w = R(out);
-    if a == 0 && !is_in_range(&w, 0, b) {
-        return None;
-    }
+    let mut w = R0;
+    write_unpacked(v, a, b, &mut w)?;
     Some(w)
 }
 
-/// `bit_unpack`, compiled with constants for each range that FIPS 204 unpacks.
-pub(crate) fn bit_unpack_by_range(v: &[u8], a: i32, b: i32) -> Option<R>
+/// `bit_unpack`, written into the caller's place.
+#[inline(always)]
+fn write_unpacked(v: &[u8], a: i32, b: i32, w: &mut R) -> Option<()>
     requires bounds { Bounds a b }
     requires room { length v.now ≡ 32 * width a b }
-    ensures { IsUnpacked a b v.now result }
+    ensures { MatchOption result (IsUnpacked a b v.now None) (λ _. IsUnpacked a b v.now (Some w.new)) }
+{
+    let c = field_width(a, b) as usize;
+    for i in 0..32 {
+        write_unpacked_group(&v[c * i..c * i + c], a, b, &mut w.0[8 * i..8 * i + 8]);
+    }
+    if a == 0 && !is_in_range(w, 0, b) {
+        return None;
+    }
+    Some(())
+}
+
+/// `write_unpacked`, compiled with constants for each range that FIPS 204 unpacks.
+pub(crate) fn write_unpacked_by_range(v: &[u8], a: i32, b: i32, w: &mut R) -> Option<()>
+    requires bounds { Bounds a b }
+    requires room { length v.now ≡ 32 * width a b }
+    ensures { MatchOption result (IsUnpacked a b v.now None) (λ _. IsUnpacked a b v.now (Some w.new)) }
 {
     match (a, b) {
-        (131071, 131072) => bit_unpack(v, 131071, 131072),
-        (524287, 524288) => bit_unpack(v, 524287, 524288),
-        (2, 2) => bit_unpack(v, 2, 2),
-        (4, 4) => bit_unpack(v, 4, 4),
-        (0, 1023) => bit_unpack(v, 0, 1023),
-        (4095, 4096) => bit_unpack(v, 4095, 4096),
-        _ => bit_unpack(v, a, b),
+        (131071, 131072) => write_unpacked(v, 131071, 131072, w),
+        (524287, 524288) => write_unpacked(v, 524287, 524288, w),
+        (2, 2) => write_unpacked(v, 2, 2, w),
+        (4, 4) => write_unpacked(v, 4, 4, w),
+        (0, 1023) => write_unpacked(v, 0, 1023, w),
+        (4095, 4096) => write_unpacked(v, 4095, 4096, w),
+        _ => write_unpacked(v, a, b, w),
     }
 }

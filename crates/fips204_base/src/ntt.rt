@@ -5,6 +5,7 @@ ghost use Rattle.std.specs.Prelude.{◌≡◌, ℕ, ◌<◌, ◌≤◌, ◌+◌,
 ghost use Rattle.fips204_base.specs.Lanes.{lane, LanesWithin, RowsWithin, IsTransform, IsInverse, EachRow};
 ghost use Rattle.fips204_base.specs.Network.{EachPair, EachLaneOfRow, IsButterfly, IsInverseButterfly, IsBlock, AreBlocks, LanesWithinFrom};
 
+use crate::helpers::Count;
 pub use crate::helpers::Residue;
 pub use crate::lanes::Lanes;
 
@@ -46,7 +47,29 @@ pub fn inv_ntt<V: Residue, const KL: usize>(
     out
 }
 
+/// `write_ntt` in lanes, with a meter that nobody reads: as it is not written to, the compiler leaves it out.
+#[inline(never)]
+pub(crate) fn write_lanes_ntt(w: &mut [Lanes; 256])
+    requires { LanesWithin (λ x. x) 8 8380416 w.old }
+    ensures values { IsTransform (λ x. x) 8 w.old w.new }
+    ensures small { LanesWithin (λ x. x) 8 8380416 w.new }
+    ensures size { length w.new ≡ 256 }
+{
+    write_ntt(w, &mut Count::new());
+}
+
+/// `write_inv_ntt` in lanes, as `write_lanes_ntt`.
+#[inline(never)]
+pub(crate) fn write_lanes_inv_ntt(w: &mut [Lanes; 256])
+    requires { LanesWithin (λ x. x) 8 8380416 w.old }
+    ensures values { IsInverse (λ x. x) 8 w.old w.new }
+    ensures size { length w.new ≡ 256 }
+{
+    write_inv_ntt(w, &mut Count::new());
+}
+
 /// The transform of one row, in place: eight layers, and a last reduction.
+#[inline(always)]
 pub(crate) fn write_ntt<V: Residue>(w: &mut [V; 256], meter: &mut V::Meter)
     requires room { (V.products meter.old + 1024 < 2 ^ 64) × (V.sums meter.old + 2048 < 2 ^ 64) }
     requires range { LanesWithin V.lanes V.width 8380416 w.old }
@@ -152,6 +175,7 @@ fn butterfly<V: Residue>(a: V, b: V, m: usize, meter: &mut V::Meter) -> (V, V)
 
 /// The inverse transform of one row, in place: eight layers backwards, and the last factor. The sums
 /// of the layers reach `256 (q - 1)`, which fits `i32`.
+#[inline(always)]
 pub(crate) fn write_inv_ntt<V: Residue>(w: &mut [V; 256], meter: &mut V::Meter)
     requires room { (V.products meter.old + 1024 < 2 ^ 64) × (V.sums meter.old + 2048 < 2 ^ 64) }
     requires range { LanesWithin V.lanes V.width 8380416 w.old }

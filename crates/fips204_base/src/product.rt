@@ -16,7 +16,7 @@ mod matrix;
 use crate::helpers::count::Count;
 use crate::helpers::vector::value_to_mont;
 use crate::lanes::Lanes;
-use crate::ntt::{write_inv_ntt, write_ntt};
+use crate::ntt::{write_lanes_inv_ntt, write_lanes_ntt, write_ntt};
 use crate::types::R;
 pub use matrix::{write_matrix_product, write_sampled_product};
 use std::marker::Model;
@@ -65,7 +65,7 @@ impl Transforms {
         for n in 0..256usize {
             self.values[n] = lanes_of(v, n);
         }
-        write_ntt(&mut self.values, &mut Count::new());
+        write_lanes_ntt(&mut self.values);
     }
 
     /// Becomes `v`, as by `write_transforms`, and returns `c` as what vectors are multiplied by. Both take one run of the
@@ -81,8 +81,7 @@ impl Transforms {
         for n in 0..256usize {
             self.values[n] = lanes_of(v, n).with_lane(7, c.0[n]);
         }
-        let mut meter = Count::new();
-        write_ntt(&mut self.values, &mut meter);
+        write_lanes_ntt(&mut self.values);
         let mut values = [0; 256];
         for i in 0..256usize {
             values[i] = value_to_mont(self.values[i].to_array()[7]);
@@ -99,7 +98,7 @@ impl Transforms {
         ensures whole { out.new ≡ vector_of N (λ r n. pos (vector_coefficients self.old r n)) }
         ensures range { VectorWithin N 8380416 out.new }
     {
-        write_inv_ntt(&mut self.values, &mut Count::new());
+        write_lanes_inv_ntt(&mut self.values);
         write_lanes(&self.values, out);
     }
 
@@ -242,7 +241,7 @@ fn write_multiple(c: &Factor, v: &Transforms, out: &mut [Lanes; 256])
     for n in 0..256usize {
         out[n] = v.values[n].times(c.values[n]);
     }
-    write_inv_ntt(out, &mut Count::new());
+    write_lanes_inv_ntt(out);
 }
 
 /// Writes `c v`, and from lane 4 on `c u`, in the first four polynomials of both.
@@ -253,7 +252,7 @@ fn write_multiples(c: &Factor, v: &Transforms, u: &Transforms, out: &mut [Lanes;
     for n in 0..256usize {
         out[n] = v.values[n].beside(u.values[n]).times(c.values[n]);
     }
-    write_inv_ntt(out, &mut Count::new());
+    write_lanes_inv_ntt(out);
 }
 
 /// Writes the polynomials whose coefficients are in the lanes.

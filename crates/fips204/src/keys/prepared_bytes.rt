@@ -9,8 +9,8 @@ ghost use Rattle.fips204.specs.PreparedBytes.{IsPreparedPrivateOf};
 
 use crate::ml_dsa::{self, read_matrix, write_matrix};
 use crate::sets::{HasSet, KeySizes, Matrix, Set};
-use crate::types::{KeyTransforms, PreparedPrivateKey, PreparedPublicKey, T0};
-use fips204_base::encodings::{pk_decode, pk_encode, sk_encode};
+use crate::types::{KeyTransforms, PreparedPrivateKey, PreparedPublicKey, R0, T0};
+use fips204_base::encodings::{pk_encode, sk_encode, write_public_key_parts};
 use fips204_base::product::Transforms;
 use std::marker::PhantomData;
 
@@ -49,7 +49,8 @@ where
     {
         let (key, rest) = bytes.split_at(PK_LEN);
         let (tr, matrix) = rest.split_at(64);
-        let (rho, t1) = pk_decode(key.first_chunk::<PK_LEN>().unwrap());
+        let mut t1 = [R0; K];
+        let rho = write_public_key_parts(key, &mut t1);
         let mut pk = PreparedPublicKey {
             rho: *rho,
             tr: *tr.first_chunk::<64>().unwrap(),

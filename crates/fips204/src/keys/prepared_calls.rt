@@ -17,10 +17,10 @@ use crate::ml_dsa::{self, check_matrix, read_matrix, write_matrix};
 use crate::sets::{HasSet, KeySizes, Matrix, Set, SignatureSizes};
 use crate::traits::SerDes;
 use crate::types::{
-    KeyTransforms, PreparedPrivateKey, PreparedPublicKey, PrivateKey, PublicKey, T0,
+    KeyTransforms, PreparedPrivateKey, PreparedPublicKey, PrivateKey, PublicKey, R0, T0,
 };
 use fips204_base::Fault;
-use fips204_base::encodings::{pk_decode, pk_encode, sk_encode};
+use fips204_base::encodings::{pk_encode, sk_encode, write_public_key_parts};
 use fips204_base::hashing::write_expanded_a;
 use fips204_base::xof::Xof;
 
@@ -128,19 +128,14 @@ where
     {
         let (key, rest) = bytes.split_at(PK_LEN);
         let (tr, matrix) = rest.split_at(64);
-        let parts = pk_decode(key.first_chunk::<PK_LEN>().unwrap());
+        let mut t1 = [R0; K];
+        write_public_key_parts(key, &mut t1);
         match ml_dsa::mu_of::<H>(tr.first_chunk::<64>().unwrap(), input) {
             Err(_) => {
                 check_matrix::<K, L>(matrix)?;
                 Some(false)
             }
-            Ok(mu) => ml_dsa::verify_by_bytes::<K, L, H>(
-                &S::params(),
-                &parts.1,
-                matrix,
-                &mu,
-                signature,
-            ),
+            Ok(mu) => ml_dsa::verify_by_bytes::<K, L, H>(&S::params(), &t1, matrix, &mu, signature),
         }
     }
 }

@@ -7,9 +7,9 @@ ghost use Rattle.fips204.specs.Keys.{DecodesPrivate};
 ghost use Rattle.fips204.specs.ParameterSets.{private_key_length};
 ghost use Rattle.fips204.specs.Sets.{set_of};
 
-use crate::types::{Params, PrivateKey, PublicKey};
+use crate::types::{Params, PrivateKey, PublicKey, R0};
 use fips204_base::Fault;
-use fips204_base::encodings::{pk_decode, sk_decode};
+use fips204_base::encodings::{write_private_key_parts, write_public_key_parts};
 use fips204_base::xof::{Xof, hash};
 use std::marker::PhantomData;
 
@@ -21,13 +21,14 @@ pub fn expand_public<const K: usize, const L: usize, const PK_LEN: usize, H: Xof
     requires { PK_LEN ≡ 32 + 320 * K }
     ensures { IsPublicKeyOf H.front K pk.now result }
 {
-    let (rho, t1) = pk_decode(pk);
-    PublicKey {
-        rho: *rho,
+    let mut key = PublicKey {
+        rho: [0; 32],
         tr: hash::<H, 64>(&[pk.as_slice()]),
-        t1,
+        t1: [R0; K],
         streams: PhantomData,
-    }
+    };
+    key.rho = *write_public_key_parts(pk, &mut key.t1);
+    key
 }
 
 /// Decodes a private key (Algorithm 25). `K` and `L` are those of the parameter set, and `SK_LEN` is the length of its
@@ -43,17 +44,22 @@ pub fn expand_private<const K: usize, const L: usize, const SK_LEN: usize, H, G>
     requires size { SK_LEN ≡ private_key_length (set_of p.now) }
     ensures { DecodesPrivate (nat_abs p.now.eta) K L sk.now result }
 {
-    let (rho, cap_k, tr, s1, s2, t0) = match sk_decode(p.eta, sk) {
-        Err(fault) => return Err(fault),
-        Ok(parts) => parts,
-    };
-    Ok(PrivateKey {
-        rho: *rho,
-        cap_k: *cap_k,
-        tr: *tr,
-        s1,
-        s2,
-        t0,
+    let mut key = PrivateKey {
+        rho: [0; 32],
+        cap_k: [0; 32],
+        tr: [0; 64],
+        s1: [R0; L],
+        s2: [R0; K],
+        t0: [R0; K],
         streams: PhantomData,
-    })
+    };
+    match write_private_key_parts(p.eta, sk, &mut key.s1, &mut key.s2, &mut key.t0) {
+        Err(fault) => return Err(fault),
+        Ok((rho, cap_k, tr)) => {
+            key.rho = *rho;
+            key.cap_k = *cap_k;
+            key.tr = *tr;
+        }
+    }
+    Ok(key)
 }

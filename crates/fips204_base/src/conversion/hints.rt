@@ -2,19 +2,20 @@
 #![tactic(auto)]
 
 ghost use Rattle.std.specs.Prelude.{◌≡◌, ◌<◌, ◌≤◌, ◌+◌, ◌≤ℤ◌, List, pos, nat_abs, length, take, drop, ◌++◌, MatchOption};
-ghost use Rattle.fips204_base.specs.Bounds.{Finds, PolynomialInRange, VectorInRange};
+ghost use Rattle.fips204_base.specs.Bounds.{Finds, FindsIn, PolynomialInRange, VectorInRange};
 ghost use Rattle.fips204_base.specs.Encodings.{Spells, all_ones, hint_bytes};
 ghost use Rattle.fips204_base.specs.EncodingSteps.{ones};
 
 use crate::types::{R, R0};
 
-/// The polynomial with ones at `places` and zeros elsewhere, or `None` where the places do not strictly rise.
-fn polynomial_of(places: &[u8]) -> Option<R>
+/// Writes the polynomial with ones at `places` and zeros elsewhere, or returns `None` where the places do not strictly
+/// rise.
+fn write_ones(places: &[u8], w: &mut R) -> Option<()>
     ensures { MatchOption result
         ((w : R) → places.now ≡ ones w → ⊥)
-        (λ w. (places.now ≡ ones w) × (length w.0 ≡ 256) × PolynomialInRange (pos 0) (pos 1) w.0) }
+        (λ _. (places.now ≡ ones w.new) × (length w.new.0 ≡ 256) × PolynomialInRange (pos 0) (pos 1) w.new.0) }
 {
-    let mut w = [0i32; 256];
+    *w = R0;
     for k in 0..places.len() {
         let place = places[k] as usize;
         // y[Index - 1] >= y[Index]: none
@@ -22,9 +23,9 @@ fn polynomial_of(places: &[u8]) -> Option<R>
             return None;
         }
         // h[i]_y[Index] = 1
-        w[place] = 1;
+        w.0[place] = 1;
     }
-    Some(R(w))
+    Some(())
 }
 
 /// `HintBitUnpack` (Algorithm 21): the hint that `y` encodes, or `None` where it encodes none.
@@ -50,9 +51,7 @@ pub(crate) fn write_unpacked_hint<const K: usize>(
     requires some { pos 1 ≤ℤ omega }
     requires sizes { nat_abs omega + K < 256 }
     requires room { length y.now ≡ nat_abs omega + K }
-    ensures { MatchOption result
-        ((h : List R) → Spells (nat_abs omega) K h y.now → ⊥)
-        (λ _. Spells (nat_abs omega) K h.new y.now) }
+    ensures { FindsIn (λ h. Spells (nat_abs omega) K h y.now) result h.new }
 {
     let limit = omega as usize;
     let mut index = 0usize;
@@ -62,7 +61,7 @@ pub(crate) fn write_unpacked_hint<const K: usize>(
         if end < index || end > limit {
             return None;
         }
-        h[i] = polynomial_of(&y[index..end])?;
+        write_ones(&y[index..end], &mut h[i])?;
         index = end;
     }
     // y[i] != 0 for an i from Index to omega - 1: none

@@ -6,9 +6,11 @@ ghost use Rattle.fips204_base.specs.Encodings.{PrivateParts, IsPrivateKeyOf, pri
 ghost use Rattle.fips204_base.specs.Bounds.{IsEta, VectorInRange};
 ghost use Rattle.fips204_base.specs.Packing.{width};
 
-use super::vectors::{polynomial_size, unpack_short_vector, unpack_vector, write_packed_vector};
+use super::vectors::{
+    polynomial_size, write_packed_vector, write_unpacked_short_vector, write_unpacked_vector,
+};
 use crate::fault::Fault;
-use crate::types::R;
+use crate::types::{R, R0};
 
 /// `skDecode` (Algorithm 25): the parts of a private key: rho, K, tr, s1, s2 and t0.
 ///
@@ -17,8 +19,6 @@ use crate::types::R;
 ///
 /// Errors: `Fault::KeyRange` if a field of s1 or s2 is above `2 eta`.
 ///
-/// Not inlined, so that what decoding needs leaves the stack before the parts are used.
-#[inline(never)]
 pub fn sk_decode<const K: usize, const L: usize, const SK_LEN: usize>(
     eta: i32,
     sk: &[u8; SK_LEN],
@@ -30,17 +30,42 @@ pub fn sk_decode<const K: usize, const L: usize, const SK_LEN: usize>(
         record { rho = parts.0.now; key = parts.1.now; tr = parts.2.now; s1 = parts.3; s2 = parts.4; t0 = parts.5 })
         (λ fault. (fault ≡ Fault.KeyRange) × ((key : PrivateParts) → IsPrivateKeyOf (nat_abs eta) K L sk.now key → ⊥)) }
 {
-    let bytes: &[u8] = sk;
+    let mut s1 = [R0; L];
+    let mut s2 = [R0; K];
+    let mut t0 = [R0; K];
+    let (rho, key, tr) = write_private_key_parts(eta, sk, &mut s1, &mut s2, &mut t0)?;
+    Ok((rho, key, tr, s1, s2, t0))
+}
+
+/// `sk_decode` with the vectors written into the caller's places; after an error, part of them may be written. Internal:
+/// serves the crate `fips204` alone.
+///
+/// Not inlined, so that what decoding needs leaves the stack before the parts are used.
+#[inline(never)]
+pub fn write_private_key_parts<'a, const K: usize, const L: usize>(
+    eta: i32,
+    sk: &'a [u8],
+    s1: &mut [R; L],
+    s2: &mut [R; K],
+    t0: &mut [R; K],
+) -> Result<(&'a [u8; 32], &'a [u8; 32], &'a [u8; 64]), Fault>
+    requires set { IsEta eta }
+    requires size { length sk.now ≡ 128 + 32 * width eta eta * L + 32 * width eta eta * K + 416 * K }
+    ensures { MatchResult result
+        (λ parts. IsPrivateKeyOf (nat_abs eta) K L sk.now
+        record { rho = parts.0.now; key = parts.1.now; tr = parts.2.now; s1 = s1.new; s2 = s2.new; t0 = t0.new })
+        (λ fault. (fault ≡ Fault.KeyRange) × ((key : PrivateParts) → IsPrivateKeyOf (nat_abs eta) K L sk.now key → ⊥)) }
+{
     // line 1: (rho, K, tr, y, z, w) = sk
-    let (seeds, vectors) = bytes.split_at(128);
+    let (seeds, vectors) = sk.split_at(128);
     let size = polynomial_size(eta, eta);
     let (first, rest) = vectors.split_at(size * L);
     let (second, low) = rest.split_at(size * K);
     // lines 2 to 10: s1[i], s2[i] = BitUnpack(_, eta, eta), t0[i] = BitUnpack(w_i, 2^(d - 1) - 1, 2^(d - 1))
-    let s1 = unpack_short_vector(first, eta).ok_or(Fault::KeyRange)?;
-    let s2 = unpack_short_vector(second, eta).ok_or(Fault::KeyRange)?;
-    let t0 = unpack_vector(low, 4095, 4096);
-    Ok((part(seeds, 0), part(seeds, 32), part(seeds, 64), s1, s2, t0))
+    write_unpacked_short_vector(first, eta, s1).ok_or(Fault::KeyRange)?;
+    write_unpacked_short_vector(second, eta, s2).ok_or(Fault::KeyRange)?;
+    write_unpacked_vector(low, 4095, 4096, t0);
+    Ok((part(seeds, 0), part(seeds, 32), part(seeds, 64)))
 }
 
 /// `skEncode` (Algorithm 24): encodes a private key from its parts: rho, K, tr, then s1 and s2 with

@@ -2,14 +2,14 @@
 #![tactic(auto)]
 
 ghost use Rattle.std.specs.Prelude.{◌≡◌, ◌≤◌, ◌+◌, ◌*◌, ◌^◌, pos, nat_abs, ◌+ℤ◌, ◌-ℤ◌, length};
-ghost use Rattle.fips204_base.specs.Bounds.{Finds, Bounds, PolynomialInRange, VectorInRange};
+ghost use Rattle.fips204_base.specs.Bounds.{FindsIn, Bounds, PolynomialInRange, VectorInRange};
 ghost use Rattle.fips204_base.specs.Encodings.{vector_bytes};
 ghost use Rattle.fips204_base.specs.Packing.{polynomial_bytes, width};
 ghost use Rattle.fips204_base.specs.Vectors.{IsVector};
 
-use crate::conversion::{bit_unpack_by_range, field_width, write_packed_by_range};
+use crate::conversion::{field_width, write_packed_by_range, write_unpacked_by_range};
 use crate::helpers::is_in_range;
-use crate::types::{R, R0};
+use crate::types::R;
 
 /// How many bytes a polynomial with coefficients in `[-a, b]` has.
 pub fn polynomial_size(a: i32, b: i32) -> usize
@@ -35,34 +35,20 @@ pub fn write_packed_vector<const N: usize>(v: &[R; N], a: i32, b: i32, out: &mut
     }
 }
 
-/// The polynomial whose bytes these are, where every field is that of a coefficient in `[-a, b]`.
+/// Writes the polynomial whose bytes these are, where every field is that of a coefficient in `[-a, b]`.
 #[inline(always)]
-pub fn unpack_polynomial(bytes: &[u8], a: i32, b: i32) -> R
+fn write_unpacked_polynomial(bytes: &[u8], a: i32, b: i32, w: &mut R)
     requires bounds { Bounds a b }
     requires whole { pos (2 ^ width a b) ≡ a +ℤ b +ℤ pos 1 }
     requires room { length bytes.now ≡ 32 * width a b }
-    ensures same_bytes { polynomial_bytes a b result.0 ≡ bytes.now }
-    ensures range { PolynomialInRange (pos 0 -ℤ a) b result.0 }
-    ensures places { length result.0 ≡ 256 }
+    ensures same_bytes { polynomial_bytes a b w.new.0 ≡ bytes.now }
+    ensures range { PolynomialInRange (pos 0 -ℤ a) b w.new.0 }
+    ensures places { length w.new.0 ≡ 256 }
 {
-    bit_unpack_by_range(bytes, a, b).unwrap()
+    write_unpacked_by_range(bytes, a, b, w).unwrap();
 }
 
-/// The vector whose bytes these are, where every field is that of a coefficient in `[-a, b]`.
-#[inline(always)]
-pub fn unpack_vector<const N: usize>(bytes: &[u8], a: i32, b: i32) -> [R; N]
-    requires bounds { Bounds a b }
-    requires whole { pos (2 ^ width a b) ≡ a +ℤ b +ℤ pos 1 }
-    requires room { length bytes.now ≡ 32 * width a b * N }
-    ensures vector { IsVector N (nat_abs a) (nat_abs b) result }
-    ensures same_bytes { vector_bytes (nat_abs a) (nat_abs b) result ≡ bytes.now }
-{
-    let mut v = [R0; N];
-    write_unpacked_vector(bytes, a, b, &mut v);
-    v
-}
-
-/// `unpack_vector`, written into the caller's place.
+/// Writes the vector whose bytes these are, where every field is that of a coefficient in `[-a, b]`.
 #[inline(always)]
 pub fn write_unpacked_vector<const N: usize>(bytes: &[u8], a: i32, b: i32, v: &mut [R; N])
     requires bounds { Bounds a b }
@@ -74,39 +60,42 @@ pub fn write_unpacked_vector<const N: usize>(bytes: &[u8], a: i32, b: i32, v: &m
     let size = polynomial_size(a, b);
     for i in 0..N {
         let at = size * i;
-        v[i] = unpack_polynomial(&bytes[at..at + size], a, b);
+        write_unpacked_polynomial(&bytes[at..at + size], a, b, &mut v[i]);
     }
 }
 
-/// The polynomial with coefficients in `[-eta, eta]` whose bytes these are, or `None` where a field
-/// is that of no such coefficient.
-pub fn unpack_short_polynomial(bytes: &[u8], eta: i32) -> Option<R>
+/// Writes the polynomial with coefficients in `[-eta, eta]` whose bytes these are, or returns `None` where a field is that
+/// of no such coefficient.
+fn write_unpacked_short_polynomial(bytes: &[u8], eta: i32, w: &mut R) -> Option<()>
     requires bounds { Bounds eta eta }
     requires room { length bytes.now ≡ 32 * width eta eta }
-    ensures { Finds (λ w. PolynomialInRange (pos 0 -ℤ eta) eta w.0
-        × (length w.0 ≡ 256) × (polynomial_bytes eta eta w.0 ≡ bytes.now)) result }
+    ensures { FindsIn (λ w. PolynomialInRange (pos 0 -ℤ eta) eta w.0
+        × (length w.0 ≡ 256) × (polynomial_bytes eta eta w.0 ≡ bytes.now)) result w.new }
 {
-    let w = bit_unpack_by_range(bytes, eta, eta)?;
-    if is_in_range(&w, eta, eta) {
-        Some(w)
+    write_unpacked_by_range(bytes, eta, eta, w)?;
+    if is_in_range(w, eta, eta) {
+        Some(())
     } else {
         None
     }
 }
 
-/// The vector with coefficients in `[-eta, eta]` whose bytes these are, or `None` where a field is
-/// that of no such coefficient.
-pub fn unpack_short_vector<const N: usize>(bytes: &[u8], eta: i32) -> Option<[R; N]>
+/// Writes the vector with coefficients in `[-eta, eta]` whose bytes these are, or returns `None` where a field is that of
+/// no such coefficient; then part of it may be written.
+pub fn write_unpacked_short_vector<const N: usize>(
+    bytes: &[u8],
+    eta: i32,
+    v: &mut [R; N],
+) -> Option<()>
     requires bounds { Bounds eta eta }
     requires room { length bytes.now ≡ 32 * width eta eta * N }
-    ensures { Finds (λ v. IsVector N (nat_abs eta) (nat_abs eta) v
-        × (vector_bytes (nat_abs eta) (nat_abs eta) v ≡ bytes.now)) result }
+    ensures { FindsIn (λ v. IsVector N (nat_abs eta) (nat_abs eta) v
+        × (vector_bytes (nat_abs eta) (nat_abs eta) v ≡ bytes.now)) result v.new }
 {
     let size = polynomial_size(eta, eta);
-    let mut v = [R0; N];
     for i in 0..N {
         let at = size * i;
-        v[i] = unpack_short_polynomial(&bytes[at..at + size], eta)?;
+        write_unpacked_short_polynomial(&bytes[at..at + size], eta, &mut v[i])?;
     }
-    Some(v)
+    Some(())
 }

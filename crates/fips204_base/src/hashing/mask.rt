@@ -7,7 +7,7 @@ ghost use Rattle.fips204_base.specs.Bounds.{IsGamma1};
 ghost use Rattle.fips204_base.specs.Sampling.{mask};
 ghost use Rattle.fips204_base.specs.SamplerSteps.{mask_polynomial, mask_width};
 
-use crate::conversion::bit_unpack_by_range;
+use crate::conversion::write_unpacked_by_range;
 use crate::encodings::polynomial_size;
 use crate::fault::Fault;
 use crate::hashing::open_numbered;
@@ -24,14 +24,14 @@ fn size_of_polynomial(gamma1: i32) -> usize
     polynomial_size(gamma1 - 1, gamma1)
 }
 
-/// The polynomial of the mask from these bytes.
-fn polynomial_of(gamma1: i32, bytes: &[u8]) -> R
+/// Writes the polynomial of the mask from these bytes.
+fn write_polynomial(gamma1: i32, bytes: &[u8], y: &mut R)
     requires gamma1 { IsGamma1 gamma1 }
     requires size { length bytes.now ≡ 32 * mask_width (nat_abs gamma1) }
-    ensures { result ≡ mask_polynomial (nat_abs gamma1) bytes.now }
+    ensures { y.new ≡ mask_polynomial (nat_abs gamma1) bytes.now }
 {
     // y[r] = BitUnpack(v, gamma1 - 1, gamma1)
-    bit_unpack_by_range(bytes, gamma1 - 1, gamma1).unwrap()
+    write_unpacked_by_range(bytes, gamma1 - 1, gamma1, y).unwrap();
 }
 
 /// The sampler of a mask, whose polynomials are from `rho` and a number in two bytes each.
@@ -64,7 +64,7 @@ impl<'a, H: Xof> Sampler<H> for MaskPolynomials<'a> {
 
     fn write(&self, first: &[u8], _reader: &mut H::Reader, value: &mut R) -> Result<(), Fault> {
         // v = H(rho || number, 32 c)
-        *value = polynomial_of(self.gamma1, first);
+        write_polynomial(self.gamma1, first, value);
         Ok(())
     }
 }

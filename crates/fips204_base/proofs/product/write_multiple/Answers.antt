@@ -16,7 +16,7 @@ returns c =
     let other_is = sym c.v.view_is in
     let end = c.loop-n-test.false in
     let values = c.loop-n.invariant.values in
-    let inverse = c.write_inv_ntt.ensures.values in
+    let inverse = c.write_lanes_inv_ntt.ensures.values in
     rw (factor_is, other_is) (λ r n h l. inverse n r [] l h ∙ ap pos (
     plain-multiple factor other (lane_values after r) r n h l (λ i p.
     values i r [] (omega (arith, p, end)) h)))

@@ -15,14 +15,14 @@ returns-then-end-index g c = λ h s.
       | then-end-index-via-else-end-index+then-end-limit w ↦ omega (arith, rise.1, w.if-end-limit.true)
     ]
 
-pub returns-in_err-h : goal.returns-in_err-h
-returns-in_err-h g c =
+pub returns-in_err-write_ones : goal.returns-in_err-write_ones
+returns-in_err-write_ones g c =
     let none : c.from_residual.result ≡ None = search rules in
     rw none (λ h s.
     let O = to_z-of_z w32 c.args.omega c.ranges.omega in
     let S : Spells (nat_abs (to_z w32 (of_z w32 c.args.omega))) g.row.K h c.args.y.now = rw O s in
     let n = S.hint.rows in
-    c.in_err-h.ensures (get_or h c.loop-i.i R0) (rw c.loop-i.invariant.at (places_of _ h c.args.y.now c.loop-i.i (pieces _ _ h c.args.y.now S) (omega (arith, n)))))
+    c.in_err-write_ones.ensures (get_or h c.loop-i.i R0) (rw c.loop-i.invariant.at (places_of _ h c.args.y.now c.loop-i.i (pieces _ _ h c.args.y.now S) (omega (arith, n)))))
 
 pub loop-i-init : goal.loop-i-init
 loop-i-init g c = grind (arith, ints, common_steps, all_ones-none, c.told-h)
@@ -31,16 +31,16 @@ pub loop-i-preserved : goal.loop-i-preserved
 loop-i-preserved g c =
     let end = get_or c.args.y.now (nat_abs (to_z w32 (of_z w32 c.args.omega)) + c.loop-i.i) 0 in
     let inside : c.loop-i.i < length c.loop-i.h = omega arith in
-    let places = one_more c.loop-i.h c.args.y.now c.loop-i.i c.loop-i.index end c.in_ok-h.field-0 inside c.if-end-index.false c.loop-i.invariant.places c.in_ok-h.ensures.0 in
-    let more = take_more_set c.loop-i.h c.loop-i.i c.in_ok-h.field-0 inside in
+    let places = one_more c.loop-i.h c.args.y.now c.loop-i.i c.loop-i.index end c.write_ones.new.w inside c.if-end-index.false c.loop-i.invariant.places c.in_ok-write_ones.ensures.0 in
+    let more = take_more_set c.loop-i.h c.loop-i.i c.write_ones.new.w inside in
     record {
-      count = length-set c.loop-i.h c.loop-i.i c.in_ok-h.field-0 ∙ c.loop-i.invariant.count;
+      count = length-set c.loop-i.h c.loop-i.i c.write_ones.new.w ∙ c.loop-i.invariant.count;
       at = ap (total_before _ c.args.y.now) (sym (add-one c.loop-i.i));
       few = c.if-end-limit.false;
       places = places;
-      totals = totals_more c.loop-i.h c.args.y.now _ c.loop-i.i end c.in_ok-h.field-0 inside (search rules) refl (search rules) places c.loop-i.invariant.totals;
-      sizes = rw more (All-push (λ (w : R). length w.0 ≡ 256) (take c.loop-i.i c.loop-i.h) c.in_ok-h.field-0 c.loop-i.invariant.sizes c.in_ok-h.ensures.1);
-      bits = rw more (All-push (λ (w : R). PolynomialInRange (pos 0) (pos 1) w.0) (take c.loop-i.i c.loop-i.h) c.in_ok-h.field-0 c.loop-i.invariant.bits c.in_ok-h.ensures.2);
+      totals = totals_more c.loop-i.h c.args.y.now _ c.loop-i.i end c.write_ones.new.w inside (search rules) refl (search rules) places c.loop-i.invariant.totals;
+      sizes = rw more (All-push (λ (w : R). length w.0 ≡ 256) (take c.loop-i.i c.loop-i.h) c.write_ones.new.w c.loop-i.invariant.sizes c.in_ok-write_ones.ensures.1);
+      bits = rw more (All-push (λ (w : R). PolynomialInRange (pos 0) (pos 1) w.0) (take c.loop-i.i c.loop-i.h) c.write_ones.new.w c.loop-i.invariant.bits c.in_ok-write_ones.ensures.2);
     }
 
 pub loop-k-init : goal.loop-k-init

@@ -5,8 +5,8 @@ use Rattle.fips204_base.proofs.encodings.vectors.write_unpacked_vector.Goals as 
 pub overflow_add-at : goal.overflow_add-at
 overflow_add-at g c = search rules
 
-pub slice_bounds-unpack_polynomial-end : goal.slice_bounds-unpack_polynomial-end
-slice_bounds-unpack_polynomial-end g c =
+pub slice_bounds-write_unpacked_polynomial-end : goal.slice_bounds-write_unpacked_polynomial-end
+slice_bounds-write_unpacked_polynomial-end g c =
     let e = c.polynomial_size-size.ensures.size in
     let size_is = rw (to_z-of_z w32 c.args.a c.ranges.a, to_z-of_z w32 c.args.b c.ranges.b) at e in
     let within = piece-within c.polynomial_size-size.result c.loop-i.i g.row.N (length c.args.bytes.now) (c.requires.room ∙ ap (λ s. s * g.row.N) (sym size_is)) c.loop-i-test.true in
@@ -14,8 +14,8 @@ slice_bounds-unpack_polynomial-end g c =
 
 pub loop-i-preserved : goal.loop-i-preserved
 loop-i-preserved g c =
-    let w = c.unpack_polynomial.ensures in
-    read_more c.unpack_polynomial.result c.loop-i.invariant c.loop-i-test.true w.same_bytes w.range w.places
+    let w = c.write_unpacked_polynomial.ensures in
+    read_more c.write_unpacked_polynomial.new.w c.loop-i.invariant c.loop-i-test.true w.same_bytes w.range w.places
 
 pub returns : goal.returns
 returns g c =

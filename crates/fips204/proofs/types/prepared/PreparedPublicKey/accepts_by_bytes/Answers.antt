@@ -11,30 +11,26 @@ use Rattle.fips204.proofs.types.prepared.PreparedPublicKey.accepts_by_bytes.Goal
 
 -- the parts of the key before the matrix
 abbrev read : (g : given.Over) (c : After-mu_of g) → PublicParts
-read g c = record { rho = c.pk_decode-parts.result.0.now; tr = c.unwrap-2.result.now; t1 = c.pk_decode-parts.result.1 }
+read g c = record { rho = c.write_public_key_parts.result.now; tr = c.unwrap.result.now; t1 = c.write_public_key_parts.new.t1 }
 
-tr-whole : (g : given.Over) (c : After-mu_of g) → c.unwrap-2.result.now ≡ c.split_at-2.result.0.now
+tr-whole : (g : given.Over) (c : After-mu_of g) → c.unwrap.result.now ≡ c.split_at-2.result.0.now
 tr-whole g c =
-    let tr : c.unwrap-2.result.now ≡ take 64 c.split_at-2.result.0.now = search rules in
+    let tr : c.unwrap.result.now ≡ take 64 c.split_at-2.result.0.now = search rules in
     tr ∙ take_all 64 c.split_at-2.result.0.now (omega (arith, c.split_at-2.ensures.front_len))
 
-tr-at : (g : given.Over) (c : After-mu_of g) → c.unwrap-2.result.now ≡ take 64 (drop g.row.PK_LEN c.args.bytes.now)
+tr-at : (g : given.Over) (c : After-mu_of g) → c.unwrap.result.now ≡ take 64 (drop g.row.PK_LEN c.args.bytes.now)
 tr-at g c =
     let second : c.split_at-2.result.0.now ≡ take 64 (drop g.row.PK_LEN c.args.bytes.now) = search rules in
     tr-whole g c ∙ second
 
-key-at : (g : given.Over) (c : After-mu_of g) → c.unwrap.result.now ≡ take g.row.PK_LEN c.args.bytes.now
-key-at g c =
-    let n = g.row.PK_LEN in
-    let front : c.split_at.result.0.now ≡ take n c.args.bytes.now = search rules in
-    let key : c.unwrap.result.now ≡ take n c.split_at.result.0.now = search rules in
-    key ∙ take_all n c.split_at.result.0.now (omega (arith, c.split_at.ensures.front_len)) ∙ front
+key-at : (g : given.Over) (c : After-mu_of g) → c.split_at.result.0.now ≡ take g.row.PK_LEN c.args.bytes.now
+key-at g c = search rules
 
 parts-read : (g : given.Over) (c : After-mu_of g) → ArePublicParts g.row.K (read g c)
 parts-read g c = record {
-  rho = c.pk_decode-parts.ensures.seed;
+  rho = c.write_public_key_parts.ensures.seed;
   tr = ap length (tr-whole g c) ∙ c.split_at-2.ensures.front_len;
-  t1 = record { rows = search rules; places = c.pk_decode-parts.ensures.count; range = c.pk_decode-parts.ensures.range };
+  t1 = c.write_public_key_parts.ensures.vector;
 }
 
 -- what is found of the matrix is found of the prepared key
@@ -50,7 +46,7 @@ found g c P answer carry there =
     let size : n ≡ 32 + 320 * g.row.K = sizes.public_key ∙ ap (λ k. 32 + 320 * k) (sym sizes.rows) in
     let matrix : c.split_at-2.result.1.now ≡ drop 64 (drop n c.args.bytes.now) = search rules in
     public_found P (λ pk yes. IsTrue yes ↔ VerifiesPrepared g.S.Set.set g.H.Xof.front pk c.args.signature.now (input_of c.args.input.now)) g.row.K g.row.L n c.args.bytes.now c.split_at-2.result.1.now (read g c) answer size
-    (parts-read g c) (sym c.pk_decode-parts.ensures.same_bytes ∙ key-at g c) (tr-at g c) matrix carry there
+    (parts-read g c) (sym c.write_public_key_parts.ensures.same_bytes ∙ key-at g c) (tr-at g c) matrix carry there
 
 pub returns-in_err-check_matrix-in-Err : goal.returns-in_err-check_matrix-in-Err
 returns-in_err-check_matrix-in-Err g c =
@@ -71,7 +67,7 @@ verify_by_bytes-requires g c =
 pub returns-in_ok-check_matrix-in-Err : goal.returns-in_ok-check_matrix-in-Err
 returns-in_ok-check_matrix-in-Err g c =
     let there = c.in_ok-check_matrix-in-Err.ensures in
-    let refused = refused_input g.H.Xof.front c.unwrap-2.result.now (input_of c.args.input.now) c.in-Err.field-0 (search rules) in
+    let refused = refused_input g.H.Xof.front c.unwrap.result.now (input_of c.args.input.now) c.in-Err.field-0 (search rules) in
     found g (goal.at.returns-in_ok-check_matrix-in-Err g c).After-mu_of (λ a yes. yes ≡ false) (Some false) (λ a yes is. rw is (λ t. absurd (true≢false (sym t)), λ v. absurd (refused v.0))) (there.0, there.1, there.2, refl)
 
 pub returns-in-Ok : goal.returns-in-Ok
@@ -79,8 +75,8 @@ returns-in-Ok g c =
     let p = g.S.Set.set in
     let H = g.H.Xof.front in
     let at = (goal.at.returns-in-Ok g c).After-mu_of in
-    let tr = c.unwrap-2.result.now in
-    let accepts = λ (a : List (List T)) (mu : List ℕ). Accepts p H a c.pk_decode-parts.result.1 mu c.args.signature.now in
+    let tr = c.unwrap.result.now in
+    let accepts = λ (a : List (List T)) (mu : List ℕ). Accepts p H a c.write_public_key_parts.new.t1 mu c.args.signature.now in
     found g at (λ a yes. IsTrue yes ↔ accepts a c.in-Ok.mu) c.verify_by_bytes.result
     (λ a yes both. verified_input H tr c.in-Ok.mu (input_of c.args.input.now) (accepts a) yes (search rules) both)
     (rw c.params.ensures at c.verify_by_bytes.ensures)

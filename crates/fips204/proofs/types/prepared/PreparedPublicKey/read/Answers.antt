@@ -23,16 +23,16 @@ returns-in_err-read_matrix g c =
     rw none (λ pk is. c.in_err-read_matrix.ensures pk.matrix is.matrix (public_matrix g.row.K g.row.L g.row.PK_LEN c.args.bytes.now pk size is ∙ sym matrix))
 
 -- the array that has tr
-tr-whole : (g : given.Over) (c : After-write_shifted_transforms g) → c.unwrap-2.result.now ≡ c.split_at-2.result.0.now
+tr-whole : (g : given.Over) (c : After-write_shifted_transforms g) → c.unwrap.result.now ≡ c.split_at-2.result.0.now
 tr-whole g c =
-    let tr : c.unwrap-2.result.now ≡ take 64 c.split_at-2.result.0.now = search rules in
+    let tr : c.unwrap.result.now ≡ take 64 c.split_at-2.result.0.now = search rules in
     tr ∙ take_all 64 c.split_at-2.result.0.now (omega (arith, c.split_at-2.ensures.front_len))
 
-parts-read : (g : given.Over) (c : After-write_shifted_transforms g) → ArePublicParts g.row.K record { rho = c.pk_decode-t1.result.0.now; tr = c.unwrap-2.result.now; t1 = c.pk_decode-t1.result.1 }
+parts-read : (g : given.Over) (c : After-write_shifted_transforms g) → ArePublicParts g.row.K record { rho = c.write_public_key_parts-rho.result.now; tr = c.unwrap.result.now; t1 = c.write_public_key_parts-rho.new.t1 }
 parts-read g c = record {
-  rho = c.pk_decode-t1.ensures.seed;
+  rho = c.write_public_key_parts-rho.ensures.seed;
   tr = ap length (tr-whole g c) ∙ c.split_at-2.ensures.front_len;
-  t1 = record { rows = search rules; places = c.pk_decode-t1.ensures.count; range = c.pk_decode-t1.ensures.range };
+  t1 = c.write_public_key_parts-rho.ensures.vector;
 }
 
 pub invariant_of-pk : goal.invariant_of-pk
@@ -44,14 +44,12 @@ returns g c =
     let n = g.row.PK_LEN in
     let front : c.split_at.result.0.now ≡ take n bytes = search rules in
     let rest : c.split_at.result.1.now ≡ drop n bytes = search rules in
-    let key : c.unwrap.result.now ≡ take n c.split_at.result.0.now = search rules in
-    let key_at : c.unwrap.result.now ≡ take n bytes = key ∙ take_all n c.split_at.result.0.now (omega (arith, c.split_at.ensures.front_len)) ∙ front in
     let second : c.split_at-2.result.0.now ≡ take 64 (drop n bytes) = search rules in
-    let tr_at : c.unwrap-2.result.now ≡ take 64 (drop n bytes) = tr-whole g c ∙ second in
+    let tr_at : c.unwrap.result.now ≡ take 64 (drop n bytes) = tr-whole g c ∙ second in
     let matrix : c.split_at-2.result.1.now ≡ drop 64 (drop n bytes) = search rules in
     record {
       parts = parts-read g c;
       matrix = c.in_ok-read_matrix.ensures.0;
-      encoding = public_joined n bytes (public_key_bytes c.pk_decode-t1.result.0.now c.pk_decode-t1.result.1) c.unwrap-2.result.now (matrix_bytes c.read_matrix.new.a)
-          (sym c.pk_decode-t1.ensures.same_bytes ∙ key_at) tr_at (c.in_ok-read_matrix.ensures.1 ∙ matrix);
+      encoding = public_joined n bytes (public_key_bytes c.write_public_key_parts-rho.result.now c.write_public_key_parts-rho.new.t1) c.unwrap.result.now (matrix_bytes c.read_matrix.new.a)
+          (sym c.write_public_key_parts-rho.ensures.same_bytes ∙ front) tr_at (c.in_ok-read_matrix.ensures.1 ∙ matrix);
     }

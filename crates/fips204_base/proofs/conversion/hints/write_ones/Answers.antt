@@ -1,7 +1,7 @@
 use Rattle.fips204_base.proofs.Names.{common_steps, ints, take_more, get_or-set_other, zero_at, zero_bits, bits-set, ones-zeros, ones-set, rising}
 use Rattle.std.proofs.Common.{rules, arith, sym, length-set}
-use Rattle.fips204_base.proofs.conversion.hints.polynomial_of.Goals as goal
-use Rattle.fips204_base.proofs.conversion.hints.polynomial_of.Goals.{else-k-gt0-via-then-k-gt0+else-places-k, else-k-gt0-via-else-k-gt0}
+use Rattle.fips204_base.proofs.conversion.hints.write_ones.Goals as goal
+use Rattle.fips204_base.proofs.conversion.hints.write_ones.Goals.{else-k-gt0-via-then-k-gt0+else-places-k, else-k-gt0-via-else-k-gt0}
 
 pub loop-k-init : goal.loop-k-init
 loop-k-init c = record {
