@@ -12,9 +12,9 @@
  * of an array that is shorter than the length behind it says, as that of another set is. A test for null stays in a program,
  * wherever it stands.
  *
- * These are the declarations of libmldsa_c.a, whose code in Rattle is proved: each call returns what FIPS 204 says, reads and
- * writes nothing but the arrays that it is given, and ends. docs/SPEC.md says what that rests on. On x86-64 some lines of C, which
- * are tested, choose between two compilations of that code.
+ * The library's code in Rattle is proved: each call returns what FIPS 204 says, reads and writes nothing but the arrays that it
+ * is given, and ends. docs/SPEC.md of its repository says what that rests on. On x86-64 some lines of C, which are tested, choose
+ * between two compilations of that code.
  *
  * An array is a pointer and, right after it, its length in bytes. A wrong length is safe: the call returns
  * MLDSA_WRONG_LENGTH and writes nothing. The arrays that a call writes are those without const; they come last. They are
@@ -210,7 +210,7 @@ enum mldsa_status {
  *                                    mldsa_check_pre_hash and mldsa_text_of too
  *
  * glibc gives a thread what `ulimit -s` says, mostly 8 MiB. musl gives it 128 KiB, on which a call that needs more ends the program
- * by SIGSEGV: there give a thread more when it is made, with these attributes.
+ * by SIGSEGV: there give a thread more when it is made, with these attributes; 16384 is for the rest of the thread.
  *
  *     pthread_attr_t attributes;
  *     pthread_attr_init(&attributes);

@@ -4,7 +4,13 @@
  */
 export class MlDsaError extends Error {
     readonly name: "MlDsaError";
-    /** 2, or 4 to 26: MLDSA_WRONG_LENGTH and so on in c/mldsa.h. */
+    /**
+     * The numbers of C's calls. Of any array: 2, a wrong length. Of signing: 4 and 6, the context of a message or digest
+     * is too long; 7 and 8, `oid` is empty or no DER; 9 and 10, the digest is too long or not as long as its function's;
+     * 13, all attempts were rejected; 15, rejection sampling reached its limit. Of a private key: 14, out of range; 25,
+     * not consistent; 26, without a seed. Of DER: 18, cut short; 19, followed by more; 20, damaged; 21, of another
+     * version; 22, of another algorithm; 23, of a wrong length; 24, of another parameter set.
+     */
     readonly status: number;
 }
 

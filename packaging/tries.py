@@ -420,7 +420,7 @@ class Tries(unittest.TestCase):
         path = f"{room.mlsign.parent}:/usr/bin:/bin"
         checks = {"mlsign": [by_mlsign]}
         if openssl_version() >= (3, 5):
-            expect("the fingerprint", room.run("sh", "-c", by_openssl[0], cwd=folder).strip(), f"{fingerprint}=")
+            expect("the fingerprint", room.run("sh", "-c", by_openssl[0], cwd=folder).strip(), fingerprint)
             checks["openssl"] = by_openssl[1:]
         else:
             print(f"    not run, for want of OpenSSL 3.5: {'; '.join(by_openssl)}")

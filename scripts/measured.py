@@ -93,13 +93,13 @@ def put_section(heading, body, behind):
     """Puts a section into bench/table.md: in the place of the one of that heading, or else behind the last one whose
     heading begins so."""
     parts = re.split(r"(?m)^(?=## )", text(TABLE))
-    made = f"{heading}\n\n{body.rstrip()}\n\n"
+    made = f"{heading}\n\n{body}"
     places = [place for place, part in enumerate(parts) if part.startswith(f"{heading}\n")]
     if places:
         parts[places[0]] = made
     else:
         parts.insert(max(place for place, part in enumerate(parts) if part.startswith(behind)) + 1, made)
-    (TOP / TABLE).write_text("".join(parts).rstrip("\n") + "\n", encoding="utf-8")
+    (TOP / TABLE).write_text("\n\n".join(part.strip() for part in parts) + "\n", encoding="utf-8")
 
 
 def times_in_c(source):

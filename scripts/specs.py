@@ -5,7 +5,7 @@ from common import TOP
 
 NAME = r"[^\s(){}\[\],;:.λ→]+"
 HEAD = re.compile(rf"(?:(abbrev|unfoldable) )?(?:pub )?(?:(record|data) )?({NAME})")
-IMPORT = re.compile(r"(?:ghost )?use (\S+?)\.\{([^}]*)\};?$")
+IMPORT = re.compile(r"(?:ghost )?use Rattle\.(\w+)\.specs\.([\w.]+?)(?:\.\{([^}]*)\}| as (\w+));?$")
 CONSTRUCTOR = re.compile(rf"  ({NAME}) :")
 
 
@@ -34,7 +34,7 @@ class File:
                 comment = []
             elif line.startswith("--"):
                 comment.append(line)
-            elif line.startswith((" ", "}", ")")):
+            elif line.startswith((" ", "(", ")", "}")):
                 if here:
                     here.lines.append(line)
             else:
@@ -50,12 +50,14 @@ class File:
 
 
 def imported(lines):
-    """The names that `use` lines bring in."""
-    names = set()
+    """The file of each name that `use` lines bring in from specs/; a name for a whole file ends with a point."""
+    found = {}
     for line in lines:
-        if found := IMPORT.match(line.strip()):
-            names.update(name.strip() for name in found.group(2).split(","))
-    return names
+        if match := IMPORT.match(line.strip()):
+            crate, file, names, whole = match.groups()
+            names = [f"{whole}."] if whole else [name.strip() for name in names.split(",")]
+            found.update(dict.fromkeys(names, f"{crate}/{file}"))
+    return found
 
 
 def files(crates=("fips204_base", "fips204"), part="specs/*"):
@@ -65,7 +67,7 @@ def files(crates=("fips204_base", "fips204"), part="specs/*"):
 
 
 def by_name(all_files):
-    """Each definition by its name, and by those of its constructors."""
+    """Each definition by its file and its name, and by those of its constructors."""
     found = {}
     for file in all_files:
         for definition in file.definitions:
@@ -73,8 +75,17 @@ def by_name(all_files):
             if definition.kind == "data":
                 names += [made.group(1) for line in definition.lines if (made := CONSTRUCTOR.match(line))]
             for name in names:
-                found[name] = definition
+                found[str(file), name] = definition
     return found
+
+
+def named(text, imports):
+    """The file and the name of each imported word of a text, in order."""
+    for first, second in re.findall(r"(?<![\w'.])([^\W\d][\w']*)(?:\.([^\W\d][\w']*))?", re.sub(r"--.*", "", text)):
+        if f"{first}." in imports:
+            yield imports[f"{first}."], second
+        elif first in imports:
+            yield imports[first], first
 
 
 def words(text):

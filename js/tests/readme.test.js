@@ -1,6 +1,6 @@
 // The example of the README, and those at each call in the types.
 import assert from "node:assert/strict";
-import { createHash } from "node:crypto";
+import { createHash, webcrypto } from "node:crypto";
 import test from "node:test";
 import * as keys from "../out/keys.js";
 import * as all from "../out/mldsa.js";
@@ -12,6 +12,15 @@ test("the example is a file, and prints that the signature is valid", async (t) 
     const printed = t.mock.method(console, "log", () => {});
     await import("../example.js");
     assert.deepEqual(printed.mock.calls.map((call) => call.arguments), [[true]]);
+});
+
+test("keys are written and read as the README shows", async () => {
+    const shown = [...text("js/README.md").matchAll(/^```js\n(.*?)^```$/gms)][1][1];
+    const [, imported, lines] = shown.match(/^import \{ (.*?) \} from "mldsa\/keys";\n(.*)$/s);
+    const names = { load: all.load, crypto: webcrypto, ...Object.fromEntries(imported.split(", ").map((it) => [it, keys[it]])) };
+    const Run = (async () => {}).constructor;
+    const { seed, key, owner } = await new Run(...Object.keys(names), `${lines} return { seed, key, owner };`)(...Object.values(names));
+    assert.deepEqual([key.set, key.seed, owner], [65, seed, { set: 65, publicKey: key.publicKey }]);
 });
 
 /** Each call that a file of types declares, and the lines of its example. A line `CALL; // VALUE` says what it gives. */

@@ -2,8 +2,9 @@
 #![tactic(auto)]
 
 use crate::toy_stream::{ToyCtr, ToySpread, ToyWide};
-use fips204::ml_dsa_44::KG;
-use fips204::traits::pairwise_check;
+use fips204::Fault;
+use fips204::ml_dsa_65::KG;
+use fips204::traits::{KeyGen, Signer, Verifier};
 use fips204::xof::{Xof, XofReader};
 
 /// The first 4096 bytes of an XOF over the joined parts.
@@ -34,12 +35,19 @@ fn toy_fronts(rt: HostRuntime) {
     assert!(rt; [of_ctr, of_spread, has_ends::<ToyWide>(first, last)] == [true; 3]);
 }
 
+/// Whether what a pair over these XOFs signs is accepted.
+fn signs<H: Xof, G: Xof>() -> Result<bool, Fault> {
+    let (public, private) = KG::<H, G>::keygen_from_seed(&[1; 32])?;
+    let signature = private.try_sign_with_seed(&[2; 32], b"a message", b"a context")?;
+    Ok(public.verify(b"a message", &signature, b"a context"))
+}
+
 /// A pair over the toy XOFs signs, and the signature is accepted.
 #[test]
 fn toy_signatures(rt: HostRuntime) {
-    let one = pairwise_check::<KG<ToyCtr, ToyCtr>>(&[1; 32], &[2; 32], b"a message", b"");
-    let two = pairwise_check::<KG<ToyCtr, ToySpread>>(&[1; 32], &[2; 32], b"a message", b"");
-    let three = pairwise_check::<KG<ToyWide, ToyWide>>(&[1; 32], &[2; 32], b"a message", b"");
+    let one = signs::<ToyCtr, ToyCtr>();
+    let two = signs::<ToyCtr, ToySpread>();
+    let three = signs::<ToyWide, ToyWide>();
     assert!(rt; [one, two, three] == [Ok(true); 3]);
 }
 
