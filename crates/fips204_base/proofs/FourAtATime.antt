@@ -1,5 +1,5 @@
 -- What is sampled four at a time: outputs that are read in two parts, and entries that are made ahead.
-use Rattle.std.proofs.Common.{◌≡◌, ℕ, ◌+◌, ◌*◌, ◌/◌, ◌%◌, ◌<◌, List, [], ◌∷◌, ◌++◌, map, take, drop, get_or, length, refl, ap, sym, ◌∙◌, Some, None, Ok, Err, ok_or, zero, suc, arith, add-zero, length-drop, length-append, length-take, ◌-◌}
+use Rattle.std.proofs.Common.{◌≡◌, ℕ, ◌+◌, ◌*◌, ◌/◌, ◌%◌, ◌<◌, List, [], ◌∷◌, ◌++◌, map, take, drop, get_or, length, refl, ap, sym, ◌∙◌, Some, None, Ok, Err, zero, suc, arith, add-zero, length-drop, length-append, length-take, ◌-◌}
 use Rattle.std.specs.Prelude.{MatchResult}
 use Rattle.std.specs.declared.result.Result.{Result}
 use Rattle.std.specs.declared.option.Option.{Option}
@@ -8,8 +8,6 @@ use Rattle.std.proofs.lemmas.List.{take-append-drop}
 use Rattle.std.proofs.lemmas.Nat.{div-mul-add, mod-mul-add, div_below, mod_below}
 use Rattle.fips204_base.specs.SamplerSteps.{AreAhead, numbered_entry, sampled_entry, sampled_row, small_vector}
 use Rattle.fips204_base.specs.Sampling.{all_present, sampled_matrix, small_polynomial}
-use Rattle.fips204_base.specs.declared.fault.Fault.{Fault}
-use Rattle.fips204_base.specs.declared.fault.Fault.TheVariants.{SamplingLimit}
 use Rattle.fips204_base.specs.declared.types.R.{R}
 use Rattle.fips204_base.specs.declared.types.T.{T}
 use Rattle.std.specs.Int.{w16, to_le_bytes}
@@ -39,11 +37,6 @@ pub matched : {A E : Type 0} {P P' : A → Type 0} {Q Q' : E → Type 0} (result
     → MatchResult result P' Q'
 matched (Ok x) m p q = p x m
 matched (Err e) m p q = q e m
-
-pub sampled_or_none : {A Q : Type 0} {P : A → Type 0} (o : Option A) {result : Result A Fault} → result ≡ ok_or o SamplingLimit → ((x : A) → o ≡ Some x → P x) → (o ≡ None → Q)
-    → MatchResult result P (λ fault. Q × (fault ≡ SamplingLimit))
-sampled_or_none None e some none = rw e (none refl, refl)
-sampled_or_none (Some x) e some none = rw e (some x refl)
 
 -- each of the values is there
 pub present_each : {A : Type 0} (f : ℕ → Option A) (a n : ℕ) (xs : List A) → length xs ≡ n → ((k : ℕ) (d : A) → k < n → f (a + k) ≡ Some (get_or xs k d))

@@ -28,10 +28,6 @@ pub put_piece : {X : Type 0} (a k n : ℕ) (xs ys front : List X) → length ys 
 put_piece a k n xs ys front e h same before =
     take-put_mid a k xs ys n (omega (arith, same, e)) (omega (arith, h)) ∙ ap (λ l. l ++ ys) before
 
--- the last piece is written after the start
-pub put_last : (a k : ℕ) (xs ys front : List ℕ) → length ys ≡ k → a + k ≡ length xs → take a xs ≡ front → put_mid a k xs ys ≡ front ++ ys
-put_last a k xs ys front e h before = grind (arith, ints, common_steps, length-put_mid, take_all, put_piece)
-
 -- The bytes of a vector, polynomial by polynomial.
 
 -- where there are as many fields as coefficients, each field is that of a coefficient in range

@@ -100,9 +100,6 @@ public_found der x e =
 pub public_small : (algorithm : SetName) → public_length algorithm ≤ 4896
 public_small algorithm = grind arith
 
-pub length_of_algorithm : (algorithm : SetName) → length (algorithm_identifier algorithm) ≤ 15
-length_of_algorithm algorithm = omega (arith, identifier_small algorithm, length_of_element sequence_tag (identifier algorithm))
-
 pub public_info_small : (algorithm : SetName) (bytes : List ℕ) → length bytes ≡ public_length algorithm
     → length (algorithm_identifier algorithm ++ bit_string bytes) < 65536
 public_info_small algorithm bytes size =

@@ -1,13 +1,11 @@
 -- A message that is hashed as it is given.
-use Rattle.std.proofs.Common.{◌≡◌, ℕ, ◌+◌, ◌≤◌, ◌<◌, List, [], ◌++◌, length, take, Option, Some, refl, subst, arith}
-use Rattle.std.proofs.lemmas.List.{append-nil, length-append, length-take}
+use Rattle.std.proofs.Common.{ℕ, ◌+◌, ◌≤◌, ◌<◌, List, [], ◌++◌, length, take, Option, Some, arith}
+use Rattle.std.proofs.lemmas.List.{length-append, length-take}
 use Rattle.std.proofs.KnownBytes.{Consumes-nil, Consumes-trans}
 use Rattle.std.specs.Io.KnownBytes.{Consumes}
 use Rattle.fips204_shake.specs.Pieces.{Hashes}
 use Rattle.fips204_shake.specs.declared.pieces.MessageHasher.{MessageHasher}
-use Rattle.fips204.specs.Framing.{plain, representative}
-use Rattle.fips204_shake.specs.Fronts.{shake256_front}
-use Rattle.mlsign_engine.specs.Messages.{GivesPiece, Gave, nothing, piece, GivesAll}
+use Rattle.mlsign_engine.specs.Messages.{GivesPiece, Gave, nothing, piece}
 
 -- a source gave these bytes of a message, in so many pieces at most, and the hasher has taken them behind what frames them
 pub record IsTaken {S : Type 0} (gives : S → Option ℕ → List ℕ → S → Type 0) (remaining : S → Option (List ℕ)) (old new : S) (tr context : List ℕ) (hasher : MessageHasher) (pieces : ℕ) : Type 0 where
@@ -40,23 +38,3 @@ taken_more gives remaining old mid new tr context room count pieces before after
       held = updates tr context so_far.given so_far.held;
     }
 
--- at the end of the message
-pub taken_all : {S : Type 0} (gives : S → Option ℕ → List ℕ → S → Type 0) (remaining : S → Option (List ℕ)) (old mid new : S) (tr context room : List ℕ) (pieces : ℕ)
-    (hasher : MessageHasher) (mu : List ℕ) → IsTaken gives remaining old mid tr context hasher pieces → gives mid (Some 0) room new
-    → GivesPiece (remaining mid) (remaining new) (Some 0) room → 0 < length room
-    → ((tr context m : List ℕ) → Hashes hasher tr context m → mu ≡ representative shake256_front tr (plain m context))
-    → (message : List ℕ) × GivesAll gives remaining old new message × (mu ≡ representative shake256_front tr (plain message context))
-taken_all gives remaining old mid new tr context room pieces hasher mu so_far call given some hash = (
-  so_far.given,
-  record {
-    last = mid;
-    room = room;
-    gave = so_far.gave;
-    nothing = call;
-    some = some;
-    taken = subst (Consumes (remaining old) (remaining new)) (append-nil so_far.given)
-        (Consumes-trans (remaining old) (remaining mid) (remaining new) so_far.given [] so_far.consumed given.1);
-    ended = given.2 refl some;
-  },
-  hash tr context so_far.given so_far.held,
-)

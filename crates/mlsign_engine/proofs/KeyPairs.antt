@@ -1,10 +1,8 @@
 -- The keys of a file are a pair, and what they sign is valid for the public key's file.
-use Rattle.std.proofs.Common.{◌≡◌, ℕ, ◌<◌, ◌≤◌, List, ◌++◌, length, take, drop, Bool, true, false, not, ltb, nat_eq, Result, Ok, Err, refl, sym, ap, subst, ◌∙◌, append_assoc, arith, IsTrue, inl, inr, ◌↔◌, None}
-use Rattle.std.proofs.lemmas.Bool.{le-ltb, not-false, eq-eqb, eqb-true}
+use Rattle.std.proofs.Common.{◌≡◌, ℕ, ◌≤◌, List, ◌++◌, length, take, drop, Bool, true, false, ltb, nat_eq, Result, Ok, Err, refl, sym, ap, subst, ◌∙◌, append_assoc, arith, IsTrue, inl, inr, ◌↔◌, None}
+use Rattle.std.proofs.lemmas.Bool.{le-ltb, eq-eqb, eqb-true}
 use Rattle.std.proofs.lemmas.List.{take_at, drop_at, length-append}
 use Rattle.std.specs.Prelude.{MatchBool, MatchResult, ⊤, Option, Some, ok_or, option_map}
-use Rattle.std.specs.Str.{bytes_eq}
-use Rattle.std.proofs.lemmas.Slice.Eq.{bytes_eq-Decides}
 use Rattle.fips204.specs.fault.Fault.{Fault}
 use Rattle.fips204.specs.fault.Fault.TheVariants.{SamplingLimit}
 use Rattle.fips204.specs.Framing.{plain, represented, representative}
@@ -47,10 +45,6 @@ pub keys_of_seed : (p : ParameterSet) (law : SignedIsAccepted) → IsSet p → (
     → generated p shake256_front shake128_front seed ≡ Ok (pk, sk) → HasKeys p (Seed seed) pk sk
 keys_of_seed p law known seed pk sk made =
     record { stands = made; pair = ((law p shake256_front shake128_front pk sk known long_fronts).1 seed made).0 }
-
--- bytes that a test does not tell apart
-pub not_different : (a b : List ℕ) (r : Bool) → r ≡ not (bytes_eq a b) → r ≡ false → a ≡ b
-not_different a b r is other = (bytes_eq-Decides a b).0 (not-false _ (sym is ∙ other))
 
 short_context : (message context : List ℕ) → length context ≤ 255 → input_fault (plain message context) ≡ None
 short_context message context short =
@@ -96,28 +90,6 @@ seed_written p law known seed public public' private private' answer seed_size f
       private_size = private_size;
     })
     case_of (Err fault) is (_, (_, failed)) = rw failed (fault, refl, is)
-
--- the keys of a seed are those of both parts where its own bytes stand beside it, and of none where others do
-pub keys_of_both : (p : ParameterSet) (seed public private : List ℕ) → HasBytes p (Seed seed) public private → HasBytes p (Both seed private) public private
-keys_of_both p seed public private has = record {
-  pk = has.pk;
-  sk = has.sk;
-  keys = record { stands = (has.keys.stands, has.private_is); pair = has.keys.pair };
-  sizes = (has.sizes, has.private_size);
-  public_is = has.public_is;
-  public_size = has.public_size;
-  private_is = has.private_is;
-  private_size = has.private_size;
-}
-
-pub others_beside : (p : ParameterSet) (seed expanded public private : List ℕ) → HasBytes p (Seed seed) public private → ¬ (private ≡ expanded)
-    → HasNoKeys p (Both seed expanded) Inconsistent
-others_beside p seed expanded public private has differ = (
-  λ pk sk keys.
-      let same = library_is (has.pk, has.sk) (pk, sk) _ has.keys.stands keys.stands.0 in
-      differ (has.private_is ∙ ap (λ (pair : PublicParts × PrivateParts). private_key_bytes p.eta pair.1) same ∙ sym keys.stands.1),
-  λ fault refused. made_or_refused (has.pk, has.sk) fault _ has.keys.stands refused,
-)
 
 -- the key of a seed is consistent, or an error
 pub generating_fails : (algorithm : SetName) (law : SignedIsAccepted) (seed : List ℕ) (fault : CommandFault)
@@ -224,11 +196,6 @@ signature_written p law known parts key random context message mu old new answer
         ((law p shake256_front shake128_front has.pk has.sk known long_fronts).0 pair.parts pair.whole pair.derives).0 in
         rw done (record { pk = has.pk; sk = has.sk; keys = has.keys; signed = signed; accepted = (size, accepts random new (plain message context) signed) })
     case_of (Err fault) is (_, failed) = rw failed (fault, refl, (has.pk, has.sk, has.keys, is))
-
--- the library's fault is not that of a long context
-pub other_fault : {A : Type 0} (r : Result A CommandFault) (fault : Fault) (context : List ℕ) → r ≡ Err (Library fault) → length context ≤ 255
-    → (r ≡ Err Context) ↔ (255 < length context)
-other_fault r fault context is short = (λ e. absurd cc, λ long. absurd (omega (arith, long, short)))
 
 -- the public key of a file's private one is written
 pub public_written : (p : ParameterSet) (parts : FileParts) (key old new : List ℕ) (answer : Result ⊤ Refusal)
