@@ -12,9 +12,9 @@
  * of an array that is shorter than the length behind it says, as that of another set is. A test for null stays in a program,
  * wherever it stands.
  *
- * The library's code in Rattle is proved: each call returns what FIPS 204 says, reads and writes nothing but the arrays that it
- * is given, and ends. docs/SPEC.md of its repository says what that rests on. On x86-64 some lines of C, which are tested, choose
- * between two compilations of that code.
+ * The library's code in Rattle is proved: each call returns what FIPS 204 says or an error, reads and writes nothing but the
+ * arrays that it is given, and ends. docs/SPEC.md of its repository says this exactly, and what it rests on. On x86-64 some lines
+ * of C, which are tested, choose between two compilations of that code.
  *
  * An array is a pointer and, right after it, its length in bytes. A wrong length is safe: the call returns
  * MLDSA_WRONG_LENGTH and writes nothing. The arrays that a call writes are those without const; they come last. They are

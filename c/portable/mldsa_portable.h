@@ -30,7 +30,7 @@ extern "C" {
 /* The result where the module's code had too little memory or none, where it stopped itself, where the call was made
  * within another of the same thread (as by a handler of signals), or where the arrays of a call have more than about
  * 4 GiB together (hash a longer message in pieces). Arrays that the call writes may then hold anything. Of verifying it
- * is a rejection, as each result but MLDSA_YES. */
+ * is a rejection, as each result but MLDSA_YES; accepts returns 0 in its place. */
 #define MLDSA_NO_ANSWER 255u
 
 /* The whole stack of the module's code, and what follows it in the memory: constants. */

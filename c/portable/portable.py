@@ -65,7 +65,9 @@ def calls(found):
         lines += [f"{it.result} {it.name}({it.declared()})\n{{\n    module_t m;\n    begin(&m);\n"]
         lines += [f"    TAKES({it.number()});\n"] if it.number() else []
         lines += [f"    {'WRITES' if written else 'READS'}({name});\n" for name, written in arrays]
-        lines += [f"    return answered(&m, run_{it.name});\n}}\n"]
+        # Of these 1 alone says yes, and 0 everything else.
+        said = " == 1" * it.name.endswith("_accepts")
+        lines += [f"    return answered(&m, run_{it.name}){said};\n}}\n"]
     return "".join(lines)
 
 

@@ -213,6 +213,6 @@ test("a private key of another length is refused with those that it may have", (
 test("that PEM is strict is said where it is read", () => {
     for (const name of ["js/keys.d.ts", "js/README.md"]) {
         const words = text(name).replace(/[\s*`]+/g, " ");
-        assert.ok(words.includes("Strict PEM only: the file begins with -----BEGIN and ends with its last line; mlsign also reads text around it, and mlsign convert writes the strict form"), name);
+        assert.ok(words.includes("Strict PEM only: the file begins with -----BEGIN and ends with the line feed of its last line; mlsign also reads text around it, and mlsign convert writes the strict form"), name);
     }
 });

@@ -9,7 +9,7 @@ static void noted(unsigned char *at, size_t len);
 
 #include "sets.h"
 
-enum { BESIDE = 64, CALLS = 20 };
+enum { BESIDE = 64, CALLS = 27 };
 static uint8_t room[BESIDE + MLDSA_MEMORY_LEN + BESIDE], *const memory = room + BESIDE;
 static size_t used;
 static int wiped;
@@ -60,7 +60,7 @@ static int got(int set, const char *name, uint32_t answer, uint32_t wanted)
 
 static uint8_t public_key[LONGEST_KEY], private_key[LONGEST_KEY], signature[LONGEST_SIGNATURE];
 static uint8_t checks[LONGEST_PREPARED_KEY], signs[LONGEST_PREPARED_KEY], other[LONGEST_KEY];
-static uint8_t seed[64], state[MLDSA_STATE_LEN];
+static uint8_t seed[64], state[MLDSA_STATE_LEN], der[LONGEST_DER];
 
 static int calls(const struct set *s)
 {
@@ -71,6 +71,10 @@ static int calls(const struct set *s)
     done += GOT("keygen", s->keygen(seed, 32, public_key, pk, private_key, sk), MLDSA_DONE);
     done += GOT("sign", s->sign(private_key, sk, seed, 64, seed, 9, seed, 32, signature, sig), MLDSA_DONE);
     done += GOT("verify", s->verify(public_key, pk, seed, 64, seed, 9, signature, sig), MLDSA_YES);
+    WANT(s->accepts(public_key, pk, seed, 64, seed, 9, signature, sig), done == 3);
+    is_clean();
+    WANT(s->accepts(public_key, pk, seed, 63, seed, 9, signature, sig), 0);
+    is_clean();
     GOT("verify", s->verify(public_key, pk, seed, 63, seed, 9, signature, sig), MLDSA_NO);
     GOT("verify", s->verify(public_key, pk - 1, seed, 64, seed, 9, signature, sig), MLDSA_WRONG_LENGTH);
     done += GOT("hash_sign", s->hash_sign(private_key, sk, seed, 32, seed, 9, SHA256_OID, 11, seed, 32, signature,
@@ -93,28 +97,44 @@ static int calls(const struct set *s)
                 sig), MLDSA_DONE);
     done += GOT("verify_prepared", s->verify_prepared(checks, checks_len, seed, 64, seed, 9, signature,
                 sig), MLDSA_YES);
+    done += GOT("public_key_to_der", s->public_key_to_der(public_key, pk, der, s->public_key_der_len), MLDSA_DONE);
+    done += GOT("public_key_from_der", s->public_key_from_der(der, s->public_key_der_len, other, pk), MLDSA_DONE);
+    done += GOT("private_key_to_der", s->private_key_to_der(private_key, sk, der, s->private_key_der_len), MLDSA_DONE);
+    done += GOT("private_key_from_der", s->private_key_from_der(der, s->private_key_der_len, other, sk), MLDSA_DONE);
+    done += GOT("seed_to_der", s->seed_to_der(seed, 32, der, MLDSA_SEED_DER_LEN), MLDSA_DONE);
+    done += GOT("both_to_der", s->both_to_der(seed, 32, der, s->both_der_len), MLDSA_DONE);
+    done += GOT("seed_from_der", s->seed_from_der(der, s->both_der_len, other, 32), MLDSA_DONE);
     done += GOT("mldsa_version", mldsa_version(), MLDSA_VERSION);
     return done;
 }
 
-/* Calls that cannot be made. */
+/* A call that cannot be made: verify has no answer, and accepts says no. */
+static void unanswered(const struct set *s, size_t pk, size_t message, size_t context, size_t sig)
+{
+    for (int asks = 0; asks < 2; asks++) {
+        if (asks)
+            WANT(s->accepts(public_key, pk, seed, message, seed, context, signature, sig), 0);
+        else
+            WANT(s->verify(public_key, pk, seed, message, seed, context, signature, sig), MLDSA_NO_ANSWER);
+        if (given)
+            is_clean();
+        else
+            WANT(wiped, 0);
+    }
+}
+
 static void refused(const struct set *s)
 {
     size_t pk = s->public_key_len, sig = s->signature_len;
     mldsa_memory(NULL);
-    WANT(s->verify(public_key, pk, seed, 64, seed, 9, signature, sig), MLDSA_NO_ANSWER);
-    WANT(wiped, 0);
+    unanswered(s, pk, 64, 9, sig);
     mldsa_memory(memory);
 #if SIZE_MAX > UINT32_MAX
-    WANT(s->verify(public_key, pk, seed, (size_t)UINT32_MAX, seed, 9, signature, sig), MLDSA_NO_ANSWER);
-    is_clean();
-    WANT(s->verify(public_key, pk, seed, (size_t)UINT32_MAX + 1, seed, 9, signature, sig), MLDSA_NO_ANSWER);
-    is_clean();
+    unanswered(s, pk, (size_t)UINT32_MAX, 9, sig);
+    unanswered(s, pk, (size_t)UINT32_MAX + 1, 9, sig);
 #endif
-    WANT(s->verify(public_key, pk, seed, SIZE_MAX, seed, 9, signature, sig), MLDSA_NO_ANSWER);
-    is_clean();
-    WANT(s->verify(public_key, SIZE_MAX, seed, SIZE_MAX, seed, SIZE_MAX, signature, SIZE_MAX), MLDSA_NO_ANSWER);
-    is_clean();
+    unanswered(s, pk, SIZE_MAX, 9, sig);
+    unanswered(s, SIZE_MAX, SIZE_MAX, SIZE_MAX, SIZE_MAX);
 }
 
 int main(int count, char **words)
