@@ -37,4 +37,3 @@ taken_more gives remaining old mid new tr context room count pieces before after
       consumed = Consumes-trans (remaining old) (remaining mid) (remaining new) so_far.given (take count room) so_far.consumed given.1;
       held = updates tr context so_far.given so_far.held;
     }
-
