@@ -54,7 +54,7 @@ fn sign<'a>(alloc: Global) -> Result<Command<'a>, AllocError> {
         .arg(context(alloc))?
         .arg(deterministic)?
         .arg(arg!(in alloc; -o --out <FILE> "Where the signature goes, if not to MESSAGE.sig"))?
-        .arg(force(alloc))?
+        .arg(force(alloc).help("Replace a file that is no signature"))?
         .arg(quiet(alloc))?
         .arg(messages(alloc))
 }
