@@ -14,16 +14,26 @@ extern crate alloc;
 #[cfg(all(test, not(feature = "default-rng")))]
 extern crate std;
 
+mod avx2;
 mod der;
 mod error;
 mod library;
 mod pieces;
 pub mod pre_hash;
 mod prepared;
+#[cfg(not(feature = "__proved"))]
+mod proved;
+#[cfg(feature = "__proved")]
+#[doc(hidden)]
+#[allow(missing_docs, missing_debug_implementations)]
+pub mod proved;
 mod rng;
 mod set;
+#[cfg(feature = "sha2")]
+pub mod sha2_arrays;
 #[cfg(feature = "signature")]
 mod signatures;
+mod simd;
 pub mod traits;
 mod wiped;
 
