@@ -27,6 +27,10 @@ impl String {
         Ok(made)
     }
 
+    pub fn push(&mut self, c: char) -> Result<(), AllocError> {
+        self.push_str(c.encode_utf8(&mut [0; 4]))
+    }
+
     pub fn push_str(&mut self, text: &str) -> Result<(), AllocError> {
         self.0.try_reserve(text.len()).map_err(|_| AllocError)?;
         self.0.push_str(text);
