@@ -82,11 +82,3 @@ impl<H: BlockHash<N>, const N: usize> OfBlocks for BlockReader<H, N> {
         BlockReader::<H, N>::new(parts, blocks)
     }
 }
-
-impl core::fmt::Display for crate::proved::fips204_bytes::Refusal {
-    fn fmt(&self, f: &mut core::fmt::Formatter<'_>) -> core::fmt::Result {
-        core::fmt::Debug::fmt(self, f)
-    }
-}
-
-impl core::error::Error for crate::proved::fips204_bytes::Refusal {}
