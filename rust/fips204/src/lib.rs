@@ -27,6 +27,9 @@ mod proved;
 #[doc(hidden)]
 #[allow(missing_docs, missing_debug_implementations)]
 pub mod proved;
+#[cfg(feature = "__proved")]
+#[doc(hidden)]
+pub mod proved_for_tests;
 mod rng;
 mod set;
 #[cfg(feature = "sha2")]
