@@ -65,7 +65,11 @@ fn found() -> bool {
             return false;
         }
         let (first, seventh) = (__cpuid(1), __cpuid_count(7, 0));
-        let (xsave, avx, avx2) = (first.ecx >> 27 & 1, first.ecx >> 28 & 1, seventh.ebx >> 5 & 1);
+        let (xsave, avx, avx2) = (
+            first.ecx >> 27 & 1,
+            first.ecx >> 28 & 1,
+            seventh.ebx >> 5 & 1,
+        );
         // the system says by OSXSAVE that it keeps registers, and by bits 1 and 2 that those of SSE and AVX are among them
         xsave & avx & avx2 == 1 && kept() & 6 == 6
     }
