@@ -24,7 +24,6 @@ mod prepared;
 mod proved;
 #[cfg(feature = "__proved")]
 #[doc(hidden)]
-#[allow(missing_docs, missing_debug_implementations)]
 pub mod proved;
 #[cfg(feature = "__proved")]
 #[doc(hidden)]
@@ -39,6 +38,7 @@ mod signatures;
 mod simd;
 pub mod traits;
 mod wiped;
+pub mod xofs;
 
 pub use error::Error;
 pub use pieces::MessageHasher;
