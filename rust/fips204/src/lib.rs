@@ -113,3 +113,17 @@ pub mod ml_dsa_87 {
         DER: 149_504,
     );
 }
+
+#[cfg(test)]
+mod tests {
+    extern crate std;
+
+    /// The package is of the same version as the library for C.
+    #[test]
+    fn version() {
+        let number = crate::proved::mldsa_c::pre_hash::mldsa_version();
+        let [_, first, second, third] = number.to_be_bytes();
+        let version = std::format!("{first}.{second}.{third}");
+        assert_eq!(version, env!("CARGO_PKG_VERSION"));
+    }
+}
