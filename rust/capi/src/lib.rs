@@ -1,5 +1,6 @@
 //! The calls of `c/mldsa.h`. Each makes slices of pointers and lengths, and calls the function of its name. All that is unsafe
-//! of these calls stands here; what the caller owes, the header says.
+//! of these calls stands here; what the caller owes, the header says. A release build alone links: without `lto` Rust's own code
+//! asks for what unwinds.
 #![no_std]
 
 use fips204::proved::mldsa_c;
