@@ -1,7 +1,7 @@
 # The steps of `make test` and `make check`. Each is a target: the steps that it waits for, the tools without which it is
 # NOT RUN, and its command (scripts/gate runs it). `make NAME` runs one, with those that it waits for. Steps that begin
 # with `python` keep python/out to themselves.
-step = @nice -n 5 scripts/gate --step $@
+step = @nice -n 5 scripts/gate --step $@ '$^'
 python = flock out/python.lock
 
 # Without the kit, over what cargo builds: the longest first.
@@ -40,7 +40,7 @@ lint: tools ; $(step) -- scripts/lint
 refusals: tools ; $(step) git -- packaging/test_release.py
 
 # What `rt check` left goes first, since `rt ci` puts it back in the place of what it proved itself.
-proof: ; @scripts/gate --step $@ -- sh -c 'rm -rf crates/*/out/rlib && exec rt ci'
+proof: ; @scripts/gate --step $@ '' -- sh -c 'rm -rf crates/*/out/rlib && exec rt ci'
 tools-check: tools ; $(step) -- scripts/tools --check
 archives: proof tools-check ; $(step) -- scripts/archive x86-64-v2 x86-64-v3 x86-64 aarch64 wasm
 module: archives ; $(step) wasm-opt -- js/module
