@@ -2,24 +2,22 @@
 PREFIX = /usr/local
 
 help:
-	@echo 'make run                    prove and build the program mldsa, and run it: 15 minutes, then half a minute'
-	@echo 'make look                   the same before any proof: half a minute'
-	@echo 'make test                   the tests, the pages, and the proof of what is built for them: half an hour'
-	@echo 'make check                  make test, each proof and each mutation: 2 hours'
-	@echo 'make release                make the packages, in dist/: half an hour, then 5 minutes'
+	@echo 'make run                    build the program mldsa of the proved source, and run it: half a minute'
+	@echo 'make test                   every test that needs no proof: 6 minutes'
+	@echo 'make check                  make test, and with the Rattle kit each proof and mutation, and the tests of what it builds: 2 hours'
+	@echo 'make release                make the packages, with the kit, in dist/: 2 hours, then 5 minutes'
 	@echo 'make install PREFIX=/DIR    install what make release made, by default below $(PREFIX): a second'
 
-run:
-	@scripts/first-run
+include scripts/steps.mk
 
-look:
-	@scripts/first-run --unproved
+run:
+	@scripts/programs run
 
 test:
-	@scripts/steps test
+	@scripts/gate test
 
 check:
-	@scripts/steps check
+	@scripts/gate check
 
 release:
 	scripts/release
@@ -27,4 +25,4 @@ release:
 install:
 	scripts/install --prefix "$(PREFIX)"
 
-.PHONY: help run look test check release install
+.PHONY: help run test check release install

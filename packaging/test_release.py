@@ -18,7 +18,11 @@ sys.path[:0] = [str(TOP / name) for name in ("scripts", "packaging", "python")]
 
 import contents
 import wheels
+from common import missing
 
+# The tools that scripts/release names.
+TOOLS = ("gcc", "ld", "objcopy", "ar", "nm", "readelf", "strip", "dpkg-deb", "pandoc", "wasm-opt", "wasm2c",
+         "aarch64-linux-gnu-gcc")
 RT = """#!/bin/sh
 [ "$1" = version ] && echo 'kit of this test' && exit
 echo 'rt was asked'
@@ -41,8 +45,10 @@ class Refusals(unittest.TestCase):
                      "packaging/contents.py"):
             (self.clone / name).write_bytes((TOP / name).read_bytes())
         self.tools.mkdir()
-        (self.tools / "rt").write_text(RT, encoding="utf-8")
-        (self.tools / "rt").chmod(0o755)
+        # (what a release wants beside the kit, and is not here, is never run)
+        for name, script in [("rt", RT), *((name, "#!/bin/sh\nexit 1\n") for name in missing(*TOOLS))]:
+            (self.tools / name).write_text(script, encoding="utf-8")
+            (self.tools / name).chmod(0o755)
         self.commit()
 
     def command(self, *words, cwd=None):

@@ -102,6 +102,22 @@ def below(*names):
     return order
 
 
+def newest(crate, *more):
+    """When the last change was made of a crate's files, of those of the crates below, or of these files."""
+    files = (file for name in below(crate) for part in ("src", "specs", "proofs")
+             for file in (TOP / "crates" / name / part).rglob("*"))
+    return max(file.stat().st_mtime for file in (TOP / "crates.txt", *files, *more))
+
+
+def program(name):
+    """The program of a crate, as `rt ci` leaves it; ends where it is not there, or older than what it is made of."""
+    made = TOP / f"crates/{name}/out/{name}"
+    if not made.is_file() or made.stat().st_mtime <= newest(name):
+        what = "older than its sources" if made.is_file() else "not there"
+        sys.exit(f"{made.relative_to(TOP)} is {what}: `rt ci` makes it, and so does `rt run` in crates/{name}")
+    return made
+
+
 def recorded_rows():
     """The rows of vectors/recorded.tsv: set, seed, random bytes, context, message or digest; the SHA-256 of the public
     key, of the private key and of the signature; of a digest the object identifier of its hash function."""

@@ -8,6 +8,7 @@ import subprocess
 import tempfile
 import unittest
 
+import common
 from common import TOP, command
 
 # Where a run waits for another, seconds; much longer than one takes.
@@ -27,11 +28,9 @@ class Room(unittest.TestCase):
     @classmethod
     @contextlib.contextmanager
     def of(cls, program=None):
-        """The tests run this program, by default that of crates/mlsign, which is built first."""
-        if program is None:
-            command("rt", "run", "--", "--version", cwd=TOP / "crates/mlsign")
+        """The tests run this program, by default that of crates/mlsign."""
         with tempfile.TemporaryDirectory() as room:
-            Room.program = os.path.abspath(program or TOP / "crates/mlsign/out/mlsign")
+            Room.program = os.path.abspath(program or common.program("mlsign"))
             Room.library = f"{room}/calls.so"
             words = ["-O1", "-shared", "-fPIC", "-o", Room.library, TOP / "scripts/mlsign-calls.c", "-ldl"]
             command(os.environ.get("CC", "cc"), *words)

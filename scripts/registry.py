@@ -13,7 +13,8 @@ import sys
 
 TOP = pathlib.Path(__file__).resolve().parent.parent
 REGISTRY = pathlib.Path("/usr/share/cargo/registry")
-CRATES = {"rand_core-0.6": "rand-core", "zeroize-1": "zeroize", "getrandom-0.2": "getrandom", "sha2-0.10": "sha2"}
+CRATES = {"rand_core-0.6": "rand-core", "zeroize-1": "zeroize", "getrandom-0.2": "getrandom", "sha2-0.10": "sha2",
+          "base64-0.13": "base64", "hex-0.4": "hex", "rand_chacha-0.3": "rand-chacha", "thiserror-1": "thiserror"}
 
 
 def lacking():
@@ -26,11 +27,11 @@ def packages(names):
     return [f"librust-{name}-dev" for name in names]
 
 
-def resolves(*words):
-    """Whether cargo finds every crate of the workspace."""
+def resolves(workspace, *words):
+    """Whether cargo finds every crate of a workspace."""
     given = {**os.environ, "CARGO_NET_RETRY": "0", "CARGO_HTTP_TIMEOUT": "10"}
     command = ["cargo", *words, "metadata", "--format-version", "1", "--quiet"]
-    return subprocess.run(command, cwd=TOP, env=given, capture_output=True, check=False).returncode == 0
+    return subprocess.run(command, cwd=workspace, env=given, capture_output=True, check=False).returncode == 0
 
 
 def install(names):
@@ -45,9 +46,9 @@ def install(names):
 
 
 @functools.cache
-def cargo_words():
-    """The words, or none where nothing helps."""
-    if resolves():
+def cargo_words(workspace=TOP):
+    """The words for a workspace, or none where nothing helps."""
+    if resolves(workspace):
         return ()
     if (absent := lacking()) and os.geteuid() == 0:
         install(absent)
@@ -57,10 +58,10 @@ def cargo_words():
         return ()
     words = ["--offline", "--config", 'source.crates-io.replace-with="debian"',
              "--config", f'source.debian.directory="{REGISTRY}"']
-    if not any(REGISTRY.glob("signature-2.*")):
+    if workspace == TOP and not any(REGISTRY.glob("signature-2.*")):
         words += ["--config", f'patch.crates-io.signature.path="{TOP}/rust/signature"']
-    print(f"cargo has no registry: it takes Debian's packages in {REGISTRY}, and Cargo.lock names these; delete that file before "
-          "cargo takes crates from elsewhere", file=sys.stderr)
+    print(f"cargo has no registry: it takes Debian's packages in {REGISTRY}, and Cargo.lock names these; delete that file "
+          "before cargo takes crates from elsewhere", file=sys.stderr)
     return tuple(words)
 
 

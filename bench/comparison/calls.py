@@ -2,9 +2,10 @@
 import ctypes
 import os
 
-from common import LENGTHS, TOP, command, missing as missing_tools
+from common import LENGTHS, TOP, archives, command, missing as missing_tools
 
-CRATE = f"{TOP}/crates/mldsa_c"
+# What scripts/archive makes for every x86-64.
+LIBRARY = f"{TOP}/out/archive/x86-64-v2/libmldsa_c.a"
 DONE, NO = 0, 1
 
 
@@ -15,16 +16,13 @@ def missing(library):
         names.append("a C compiler, to link the archive: apt-get install gcc")
     if library is None and missing_tools("rt"):
         names.append("rt, of the Rattle kit, or a library named by --library")
-    if library is None and not os.path.isdir(CRATE):
-        names.append("crates/mldsa_c, or a library named by --library")
     return names
 
 
 def loaded(library, room):
     """The library, linked as a shared one if it is an archive. Without a name it is built."""
     if library is None:
-        command("rt", "lib", cwd=CRATE)
-        library = f"{CRATE}/out/libmldsa_c.a"
+        library = str(archives("x86-64-v2")[0])
     if library.endswith(".a"):
         shared = f"{room}/libmldsa_c.so"
         command("cc", "-shared", "-o", shared, "-Wl,--whole-archive", library, "-Wl,--no-whole-archive")

@@ -9,7 +9,7 @@ import { text } from "./shared.js";
 export function installed(folder) {
     const place = join(folder, "node_modules/mldsa");
     mkdirSync(place, { recursive: true });
-    for (const name of ["package.json", ...JSON.parse(text("js/package.json")).files]) {
+    for (const name of ["package.json", ...JSON.parse(text("js/out/package.json")).files]) {
         copyFileSync(fileURLToPath(new URL(`../out/${name}`, import.meta.url)), join(place, name));
     }
 }

@@ -11,7 +11,7 @@ import { SEED, ofOpenssl, text } from "./shared.js";
 
 const room = mkdtempSync(join(tmpdir(), "mldsa-package-"));
 after(() => rmSync(room, { recursive: true, force: true }));
-const { files, engines } = JSON.parse(text("js/package.json"));
+const { files, engines } = JSON.parse(text("js/out/package.json"));
 installed(room);
 
 /** Runs a program, and gives what it printed. */
@@ -89,7 +89,7 @@ test("each way shows the same, and what the types declare", () => {
 });
 
 test("package.json names what there is, and this node is one that it wants", () => {
-    const { exports } = JSON.parse(text("js/package.json"));
+    const { exports } = JSON.parse(text("js/out/package.json"));
     const named = JSON.stringify(exports).match(/"\.\/[\w.]+"(?!:)/g).map((it) => JSON.parse(it).slice(2));
     assert.deepEqual([...new Set(named)].filter((name) => name !== "package.json" && !files.includes(name)), []);
     assert.ok(Number(process.versions.node.split(".")[0]) >= Number(engines.node.slice(2)));
