@@ -10,15 +10,15 @@ extern volatile unsigned char known;
 
 int mldsa_x86_64_level(int most)
 {
-    static int found;
-    if (!found) {
+    static unsigned char found;
+    if (most > 2 && !found) {
         static uint8_t seed[32], public_key[MLDSA44_PUBLIC_KEY_LEN], private_key[MLDSA44_PRIVATE_KEY_LEN];
         known = 0;
         if (mldsa44_keygen(seed, 32, public_key, sizeof public_key, private_key, sizeof private_key) || !known)
             abort();
         found = known;
     }
-    known = (unsigned char)(most > 2 ? found : 1);
+    known = most > 2 ? found : 1;
     return known + 1;
 }
 
