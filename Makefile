@@ -2,7 +2,7 @@
 PREFIX = /usr/local
 
 help:
-	@echo 'make run                    build the program mldsa by cargo, and run it: half a minute'
+	@echo 'make run                    build the program mldsa of the proved source, and run it: half a minute'
 	@echo 'make test                   every test that needs no proof: 6 minutes'
 	@echo 'make check                  make test, and with the Rattle kit each proof and mutation, and the tests of what it builds: 2 hours'
 	@echo 'make release                make the packages, with the kit, in dist/: 2 hours, then 5 minutes'
@@ -11,7 +11,7 @@ help:
 include scripts/steps.mk
 
 run:
-	@scripts/first-run
+	@scripts/programs run
 
 test:
 	@scripts/gate test

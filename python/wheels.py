@@ -85,9 +85,9 @@ def sources():
     return {**{f"mldsa/{it.name}": it.read_bytes() for it in found}, "mldsa/_interface.py": interface().encode()}
 
 
-def weak_places(facts, shared, system):
+def weak_places(facts, shared, system, of_rust=False):
     """What is wrong with a shared library of a system; nothing where all is well."""
-    names = contents.exported(facts) if system == contents.X86 else facts.calls
+    names = contents.exported(facts) if system == contents.X86 and not of_rust else facts.calls
     found = contents.weak_places(shared, names)
     libc = contents.needs_libc(shared)
     if tuple(map(int, libc.split("."))) > LIBC:

@@ -1,6 +1,6 @@
 /* Each call on a stack of the size that the header states, and no more: below it lies a page that faults. The stack is the one
  * on which a signal is handled.
- * `stack measure` prints what each call uses: SET NAME BYTES. */
+ * `stack measure` prints what each call uses: SET NAME BYTES. `stack at-most` allows a call that needs much less than is stated. */
 #define _GNU_SOURCE
 #include "sets.h"
 
@@ -136,6 +136,7 @@ int main(int count, char **words)
         {"SIGN_PREPARED", sign_mu_prepared}, {"VERIFY_PREPARED", verify_mu_prepared}, {"MU", pieces}, {"DER", der}};
     enum { COUNT = sizeof CALLS / sizeof *CALLS };
     int measure = count > 1 && strcmp(words[1], "measure") == 0;
+    int at_most = count > 1 && strcmp(words[1], "at-most") == 0;
     struct sigaction action;
     size_t own;
     memset(&action, 0, sizeof action);
@@ -164,7 +165,7 @@ int main(int count, char **words)
             }
             /* Handling a signal takes some of it. */
             took = used(CALLS[i].run, stated[i] + own, 1) - own;
-            if (took > stated[i] || 4 * took < 3 * stated[i]) {
+            if (took > stated[i] || (!at_most && 4 * took < 3 * stated[i])) {
                 printf("set %d, %s: %zu bytes used, %zu stated\n", s->number, CALLS[i].name, took, stated[i]);
                 failures++;
             }

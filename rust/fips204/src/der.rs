@@ -1,17 +1,56 @@
 //! Keys in files: the DER of RFC 9881, which the library reads and writes, and PEM around it.
 #![allow(dead_code)] // no set may be chosen
 
-use crate::error::Error;
-use crate::library::answer;
-use crate::set::{Calls, PrivateKey, PublicKey, Set};
+use crate::Error;
+use crate::error::{WIPED, WRONG_LENGTH};
+use crate::proved::mldsa_c::der;
+use crate::set::{Named, PrivateKey, PublicKey, Set};
 use crate::wiped::{Wiped, held};
 
 /// How many bytes the DER of a seed has, at every set.
 const SEED_DER_LEN: usize = 54;
 
+/// The texts of the statuses from 18 on, which are those that reading DER alone returns.
+const TEXTS: [&str; 9] = [
+    "its DER is cut short",
+    "more follows behind the end of its DER",
+    "its DER is damaged",
+    "it has a private key of another version",
+    "its key is not one of ML-DSA-44, ML-DSA-65 or ML-DSA-87",
+    "its key has a wrong length",
+    "its key is one of another parameter set",
+    "the private key is not consistent",
+    "it has no seed: its seed cannot be had of its expanded key",
+];
+
+/// The text of a status that is no success.
+const fn text(status: u32) -> &'static str {
+    match status {
+        2 => WRONG_LENGTH,
+        18.. if status < 18 + TEXTS.len() as u32 => TEXTS[status as usize - 18],
+        _ => "sampling limit reached",
+    }
+}
+
+/// The value where a call is done, and else the text of its status.
+fn answer<T>(status: u32, value: T) -> Result<T, Error> {
+    match status {
+        0 => Ok(value),
+        status => Err(text(status).into()),
+    }
+}
+
+/// The same, of a call that writes a key: one that was wiped has no bytes.
+fn written(key: &[u8], status: u32) -> Result<(), Error> {
+    if key.is_empty() {
+        return Err(WIPED.into());
+    }
+    answer(status, ())
+}
+
 impl<const PK: usize, const SK: usize, const SIG: usize> PublicKey<PK, SK, SIG>
 where
-    Set<PK, SK, SIG>: Calls,
+    Set<PK, SK, SIG>: Named,
 {
     /// How many bytes the key's DER has.
     pub const DER_LEN: usize = PK + 22;
@@ -36,8 +75,8 @@ where
     /// ```
     pub fn from_der(der: &[u8]) -> Result<Self, Error> {
         let mut key = PublicKey(Wiped::zeros());
-        let status = Set::<PK, SK, SIG>::public_key_from_der(der, key.0.array_mut());
-        Ok(answer(status, key)?)
+        let status = der::public_key_from_der(Self::SET, der, key.0.array_mut());
+        answer(status, key)
     }
 
     /// Writes the key as a SubjectPublicKeyInfo in DER, of `DER_LEN` bytes.
@@ -59,16 +98,14 @@ where
     /// # Ok::<(), &'static str>(())
     /// ```
     pub fn write_der(&self, der: &mut [u8]) -> Result<(), Error> {
-        Ok(answer(
-            Set::<PK, SK, SIG>::public_key_to_der(self.0.given(), der),
-            (),
-        )?)
+        let key = self.0.given();
+        written(key, der::public_key_to_der(Self::SET, key, der))
     }
 }
 
 impl<const PK: usize, const SK: usize, const SIG: usize> PrivateKey<PK, SK, SIG>
 where
-    Set<PK, SK, SIG>: Calls,
+    Set<PK, SK, SIG>: Named,
 {
     /// How many bytes the key's DER has.
     pub const DER_LEN: usize = SK + 28;
@@ -98,8 +135,8 @@ where
     /// ```
     pub fn from_der(der: &[u8]) -> Result<Self, Error> {
         let mut key = PrivateKey(held());
-        let status = Set::<PK, SK, SIG>::private_key_from_der(der, key.0.array_mut());
-        Ok(answer(status, key)?)
+        let status = der::private_key_from_der(Self::SET, der, key.0.array_mut());
+        answer(status, key)
     }
 
     /// The seed of a private key in DER, of which `keygen_from_seed` makes it.
@@ -120,8 +157,8 @@ where
     /// ```
     pub fn seed_from_der(der: &[u8]) -> Result<[u8; 32], Error> {
         let mut seed = [0; 32];
-        let status = Set::<PK, SK, SIG>::seed_from_der(der, &mut seed);
-        Ok(answer(status, seed)?)
+        let status = der::seed_from_der(Self::SET, der, &mut seed);
+        answer(status, seed)
     }
 
     /// A private key in DER by its seed, which is all that has to be stored.
@@ -142,8 +179,8 @@ where
     /// ```
     pub fn seed_to_der(seed: &[u8; 32]) -> Result<[u8; SEED_DER_LEN], Error> {
         let mut der = [0; SEED_DER_LEN];
-        let status = Set::<PK, SK, SIG>::seed_to_der(seed, &mut der);
-        Ok(answer(status, der)?)
+        let status = der::seed_to_der(Self::SET, seed, &mut der);
+        answer(status, der)
     }
 
     /// Writes the key as a OneAsymmetricKey in DER by its expanded key, of `DER_LEN` bytes.
@@ -165,10 +202,8 @@ where
     /// # Ok::<(), &'static str>(())
     /// ```
     pub fn write_der(&self, der: &mut [u8]) -> Result<(), Error> {
-        Ok(answer(
-            Set::<PK, SK, SIG>::private_key_to_der(self.0.given(), der),
-            (),
-        )?)
+        let key = self.0.given();
+        written(key, der::private_key_to_der(Self::SET, key, der))
     }
 
     /// Writes a private key in DER by its seed and the expanded key that it generates, of `BOTH_DER_LEN` bytes.
@@ -189,14 +224,30 @@ where
     /// # Ok::<(), &'static str>(())
     /// ```
     pub fn write_both_der(seed: &[u8; 32], der: &mut [u8]) -> Result<(), Error> {
-        Ok(answer(Set::<PK, SK, SIG>::both_to_der(seed, der), ())?)
+        answer(der::both_to_der(Self::SET, seed, der), ())
+    }
+}
+
+#[cfg(test)]
+mod tests {
+    use crate::proved::mldsa_c::texts::mldsa_text_of;
+
+    /// The texts are those that C has.
+    #[test]
+    fn texts() {
+        for status in [2, 15, 18, 19, 20, 21, 22, 23, 24, 25, 26] {
+            let mut of_c = [0; 64];
+            assert_eq!(mldsa_text_of(status, &mut of_c), 0);
+            let text = super::text(status).as_bytes();
+            assert_eq!((&of_c[..text.len()], of_c[text.len()]), (text, 0));
+        }
     }
 }
 
 /// PEM in the strict form of RFC 7468, as `mlsign` and OpenSSL write it.
 #[cfg(feature = "default-rng")]
 mod pem {
-    use super::{Calls, Error, PrivateKey, PublicKey, SEED_DER_LEN, Set, answer};
+    use super::{Error, Named, PrivateKey, PublicKey, SEED_DER_LEN, Set};
     use crate::wiped::{Wiped, WipedVec};
     use std::string::String;
     use std::vec::Vec;
@@ -285,7 +336,7 @@ mod pem {
 
     impl<const PK: usize, const SK: usize, const SIG: usize> PublicKey<PK, SK, SIG>
     where
-        Set<PK, SK, SIG>: Calls,
+        Set<PK, SK, SIG>: Named,
     {
         /// The key of a file in PEM, as `mlsign` and OpenSSL write it.
         /// Takes `stack::DER` bytes of stack.
@@ -334,7 +385,7 @@ mod pem {
 
     impl<const PK: usize, const SK: usize, const SIG: usize> PrivateKey<PK, SK, SIG>
     where
-        Set<PK, SK, SIG>: Calls,
+        Set<PK, SK, SIG>: Named,
     {
         /// The key of a file in PEM, which is not encrypted, as `mlsign` and OpenSSL write it. The DER that is made on the
         /// way is wiped; the text is yours.
@@ -398,8 +449,10 @@ mod pem {
         /// ```
         pub fn seed_to_pem(seed: &[u8; 32]) -> Result<String, Error> {
             let mut der = Wiped::<SEED_DER_LEN>::zeros();
-            let status = Set::<PK, SK, SIG>::seed_to_der(seed, der.array_mut());
-            answer(status, ())?;
+            super::answer(
+                super::der::seed_to_der(Self::SET, seed, der.array_mut()),
+                (),
+            )?;
             Ok(encode(PRIVATE, der.array()))
         }
 

@@ -1,5 +1,40 @@
 //! Why a call returns an error.
 
+use crate::proved::fips204_bytes::Refusal;
+
+/// The error of each call with a key or a hasher that `zeroize` wiped.
+pub(crate) const WIPED: &str = "the key or the hasher was wiped";
+
+/// The error of an array that has another length than the set wants.
+pub(crate) const WRONG_LENGTH: &str = "an array has the wrong length";
+
+/// The text of a refusal.
+fn text(refusal: Refusal) -> &'static str {
+    match refusal {
+        Refusal::Length(_) => WRONG_LENGTH,
+        Refusal::Library(fault) => fault.as_str(),
+        Refusal::NotPrepared => "no call has written this prepared key",
+    }
+}
+
+/// The same, of a call with what a type of this crate holds. That has every length right but where it was wiped: then it gives no
+/// bytes.
+#[allow(dead_code)] // no set may be chosen
+pub(crate) fn why(refusal: Refusal) -> &'static str {
+    match refusal {
+        Refusal::Length(_) => WIPED,
+        refusal => text(refusal),
+    }
+}
+
+impl core::fmt::Display for Refusal {
+    fn fmt(&self, f: &mut core::fmt::Formatter<'_>) -> core::fmt::Result {
+        f.write_str(text(*self))
+    }
+}
+
+impl core::error::Error for Refusal {}
+
 /// The error of the calls that the crate fips204 does not have. Those that it has return its `&'static str`; `?` turns either into
 /// the other, and this one into a `Box<dyn Error>` and its like.
 ///

@@ -7,29 +7,44 @@
     doc = "ML-DSA (FIPS 204) with the interface of the crate fips204 0.5.0."
 )]
 #![cfg_attr(not(feature = "default-rng"), no_std)]
-#![deny(missing_docs, missing_debug_implementations)]
+#![deny(missing_docs, missing_debug_implementations, unsafe_code)]
 
 #[cfg(feature = "alloc")]
 extern crate alloc;
 #[cfg(all(test, not(feature = "default-rng")))]
 extern crate std;
 
+mod avx2;
 mod der;
 mod error;
-mod library;
 mod pieces;
 pub mod pre_hash;
 mod prepared;
+#[cfg(not(feature = "__proved"))]
+mod proved;
+#[cfg(feature = "__proved")]
+#[doc(hidden)]
+pub mod proved;
+#[cfg(feature = "__proved")]
+#[doc(hidden)]
+pub mod proved_for_tests;
+#[cfg(feature = "rand_core")]
 mod rng;
 mod set;
+#[cfg(feature = "sha2")]
+pub mod sha2_arrays;
 #[cfg(feature = "signature")]
 mod signatures;
+mod simd;
 pub mod traits;
 mod wiped;
+pub mod xofs;
 
 pub use error::Error;
 pub use pieces::MessageHasher;
+#[cfg(feature = "rand_core")]
 pub use rand_core::{CryptoRng, Error as RngError, RngCore};
+#[cfg(feature = "rand_core")]
 pub use rng::FillRng;
 pub use set::{PrivateKey, PublicKey};
 
@@ -39,8 +54,8 @@ pub const STACK_MU: usize = 3_328;
 /// ML-DSA-44, of security category 2.
 #[cfg(feature = "ml-dsa-44")]
 pub mod ml_dsa_44 {
-    crate::set::parameter_set!("ml_dsa_44", set_44, 1312, 2560, 2420);
-    crate::prepared::prepared_keys!("ml_dsa_44", set_44, 17760, 18944);
+    crate::set::parameter_set!("ml_dsa_44", MlDsa44, 1312, 2560, 2420);
+    crate::prepared::prepared_keys!("ml_dsa_44", 17760, 18944);
     crate::set::stack!(
         KEYGEN: 57_344,
         SIGN: 116_736,
@@ -60,8 +75,8 @@ pub mod ml_dsa_44 {
 /// ML-DSA-65, of security category 3.
 #[cfg(feature = "ml-dsa-65")]
 pub mod ml_dsa_65 {
-    crate::set::parameter_set!("ml_dsa_65", set_65, 1952, 4032, 3309);
-    crate::prepared::prepared_keys!("ml_dsa_65", set_65, 32736, 34752);
+    crate::set::parameter_set!("ml_dsa_65", MlDsa65, 1952, 4032, 3309);
+    crate::prepared::prepared_keys!("ml_dsa_65", 32736, 34752);
     crate::set::stack!(
         KEYGEN: 73_728,
         SIGN: 153_600,
@@ -81,8 +96,8 @@ pub mod ml_dsa_65 {
 /// ML-DSA-87, of security category 5.
 #[cfg(feature = "ml-dsa-87")]
 pub mod ml_dsa_87 {
-    crate::set::parameter_set!("ml_dsa_87", set_87, 2592, 4896, 4627);
-    crate::prepared::prepared_keys!("ml_dsa_87", set_87, 60000, 62240);
+    crate::set::parameter_set!("ml_dsa_87", MlDsa87, 2592, 4896, 4627);
+    crate::prepared::prepared_keys!("ml_dsa_87", 60000, 62240);
     crate::set::stack!(
         KEYGEN: 90_112,
         SIGN: 209_920,
@@ -97,4 +112,18 @@ pub mod ml_dsa_87 {
         SIGN_PREPARED: 209_920,
         DER: 149_504,
     );
+}
+
+#[cfg(test)]
+mod tests {
+    extern crate std;
+
+    /// The package is of the same version as the library for C.
+    #[test]
+    fn version() {
+        let number = crate::proved::mldsa_c::pre_hash::mldsa_version();
+        let [_, first, second, third] = number.to_be_bytes();
+        let version = std::format!("{first}.{second}.{third}");
+        assert_eq!(version, env!("CARGO_PKG_VERSION"));
+    }
 }

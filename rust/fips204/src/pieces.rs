@@ -1,10 +1,10 @@
 //! Messages that come in pieces.
 
 use crate::Error;
-use crate::library;
+use crate::error::{WIPED, why};
+use crate::proved::fips204_bytes::{Refusal, SetName};
+use crate::proved::fips204_shake::pieces::{self, SAVED_LEN};
 use crate::wiped::{Wiped, shows_nothing};
-
-const STATE_LEN: usize = 337;
 
 /// Hashes a message in pieces to `mu`, which `try_sign_mu` signs and `verify_mu` verifies as `try_sign` and `verify` do the
 /// whole message. It is begun by `message_hasher` of a key. With the feature `default-rng` it is an `io::Write`.
@@ -25,15 +25,41 @@ const STATE_LEN: usize = 337;
 /// # Ok::<(), &'static str>(())
 /// ```
 #[derive(Clone)]
-pub struct MessageHasher(Wiped<STATE_LEN>);
+pub struct MessageHasher(Wiped<SAVED_LEN>);
 
+#[allow(dead_code)] // no set may be chosen
 impl MessageHasher {
-    /// A hasher whose state a call of the library writes.
-    #[allow(dead_code)] // no set may be chosen
-    pub(crate) fn begun(begin: impl FnOnce(&mut [u8]) -> u32) -> Result<Self, Error> {
+    /// A hasher that the library began, which is kept as its bytes.
+    fn begun(hasher: Result<pieces::MessageHasher, Refusal>) -> Result<Self, Error> {
         let mut state = Wiped::zeros();
-        let status = begin(state.array_mut());
-        Ok(library::answer(status, Self(state))?)
+        hasher.map_err(why)?.save(state.array_mut());
+        Ok(Self(state))
+    }
+
+    /// Begins a message that the public key with these bytes is to verify.
+    pub(crate) fn of_public_key(set: SetName, key: &[u8], ctx: &[u8]) -> Result<Self, Error> {
+        Self::begun(pieces::MessageHasher::for_public_key(set, key, ctx))
+    }
+
+    /// Begins a message that the private key with these bytes is to sign.
+    pub(crate) fn of_private_key(set: SetName, key: &[u8], ctx: &[u8]) -> Result<Self, Error> {
+        Self::begun(pieces::MessageHasher::for_private_key(set, key, ctx))
+    }
+
+    /// The library's hasher.
+    fn hasher(&self) -> Result<pieces::MessageHasher, &'static str> {
+        if self.0.given().is_empty() {
+            return Err(WIPED);
+        }
+        // The library wrote the state, so that it is one.
+        Ok(pieces::MessageHasher::restore(self.0.array()).unwrap())
+    }
+
+    fn add(&mut self, piece: &[u8]) -> Result<(), &'static str> {
+        let mut hasher = self.hasher()?;
+        hasher.update(piece);
+        hasher.save(self.0.array_mut());
+        Ok(())
     }
 
     /// Adds a piece to the end of the message. Takes [`STACK_MU`](crate::STACK_MU) bytes of stack.
@@ -56,9 +82,7 @@ impl MessageHasher {
     /// # Ok::<(), &'static str>(())
     /// ```
     pub fn update(&mut self, piece: &[u8]) {
-        // The library wrote the state, and returns no other status for such a one.
-        let status = library::mu_update(piece, self.0.given_mut());
-        library::answer(status, ()).unwrap();
+        self.add(piece).unwrap();
     }
 
     /// The hash `mu` of the message. Takes [`STACK_MU`](crate::STACK_MU) bytes of stack.
@@ -80,9 +104,7 @@ impl MessageHasher {
     /// ```
     #[must_use]
     pub fn finalize(self) -> [u8; 64] {
-        let mut mu = [0; 64];
-        let status = library::mu_finish(self.0.given(), &mut mu);
-        library::answer(status, mu).unwrap()
+        self.hasher().unwrap().finalize()
     }
 }
 
@@ -91,8 +113,8 @@ shows_nothing!(MessageHasher);
 #[cfg(feature = "default-rng")]
 impl std::io::Write for MessageHasher {
     fn write(&mut self, piece: &[u8]) -> std::io::Result<usize> {
-        let status = library::mu_update(piece, self.0.given_mut());
-        library::answer(status, piece.len()).map_err(std::io::Error::other)
+        let added = self.add(piece).map_err(std::io::Error::other);
+        added.map(|()| piece.len())
     }
 
     fn flush(&mut self) -> std::io::Result<()> {

@@ -1,10 +1,10 @@
 //! Keys with their matrix, for many calls.
 
-/// The prepared keys of a parameter set, in the module of `parameter_set`: the module's name, the calls of the library, and the
-/// lengths of a prepared public and a prepared private key.
+/// The prepared keys of a parameter set, in the module of `parameter_set`: the module's name, and the lengths of a prepared public
+/// and a prepared private key.
 #[cfg(any(feature = "ml-dsa-44", feature = "ml-dsa-65", feature = "ml-dsa-87"))]
 macro_rules! prepared_keys {
-    ($name:literal, $calls:ident, $public_len:literal, $private_len:literal) => {
+    ($name:literal, $public_len:literal, $private_len:literal) => {
         /// A public key with its matrix, which verifies in less time, and is wiped when it is dropped. Its calls return what those of
         /// the key return that it was made of.
         #[doc = concat!("It has ", stringify!($public_len), " bytes, which are where those of a private key are.")]
@@ -41,8 +41,10 @@ macro_rules! prepared_keys {
             #[must_use]
             pub fn prepare(&self) -> PreparedPublicKey {
                 let mut prepared = PreparedPublicKey(held());
-                let status = calls::prepare_public_key(self.0.given(), prepared.0.array_mut());
-                answer(status, prepared).unwrap()
+                let place = prepared.0.array_mut();
+                let made = MlDsa::prepare_public_key(Self::SET, self.0.given(), place);
+                made.map_err(why).unwrap();
+                prepared
             }
         }
 
@@ -67,8 +69,10 @@ macro_rules! prepared_keys {
             #[must_use]
             pub fn prepare(&self) -> PreparedPrivateKey {
                 let mut prepared = PreparedPrivateKey(held());
-                let status = calls::prepare_private_key(self.0.given(), prepared.0.array_mut());
-                answer(status, prepared).unwrap()
+                let place = prepared.0.array_mut();
+                let made = MlDsa::prepare_private_key(Self::SET, self.0.given(), place);
+                made.map_err(why).unwrap();
+                prepared
             }
         }
 
@@ -109,7 +113,7 @@ macro_rules! prepared_keys {
             /// # Ok::<(), fips204::Error>(())
             /// ```
             pub fn message_hasher(&self, ctx: &[u8]) -> Result<MessageHasher, Error> {
-                MessageHasher::begun(|state| calls::mu_begin(self.0.front(PK_LEN), ctx, state))
+                MessageHasher::of_public_key(PublicKey::SET, self.0.front(PK_LEN), ctx)
             }
 
             /// Whether the key accepts the signature of the hash `mu` of a message (Algorithm 8, with mu given). False for a key that
@@ -130,7 +134,11 @@ macro_rules! prepared_keys {
             /// ```
             #[must_use]
             pub fn verify_mu(&self, mu: &[u8; 64], sig: &[u8; SIG_LEN]) -> bool {
-                calls::verify_mu_prepared(self.0.given(), mu, sig) == library::DONE
+                self.accepts(&Input::Mu(mu), sig)
+            }
+
+            fn accepts(&self, input: &Input<'_>, signature: &[u8; SIG_LEN]) -> bool {
+                MlDsa::verify_prepared(PublicKey::SET, self.0.given(), input, signature) == Ok(true)
             }
         }
 
@@ -138,7 +146,7 @@ macro_rules! prepared_keys {
             type Signature = [u8; SIG_LEN];
 
             fn verify(&self, message: &[u8], signature: &[u8; SIG_LEN], ctx: &[u8]) -> bool {
-                calls::verify_prepared(self.0.given(), message, ctx, signature) == library::DONE
+                self.accepts(&Input::Message(message, ctx), signature)
             }
 
             fn hash_verify(
@@ -148,8 +156,7 @@ macro_rules! prepared_keys {
                 ctx: &[u8],
                 hash_oid: &[u8],
             ) -> bool {
-                calls::hash_verify_prepared(self.0.given(), hash, ctx, hash_oid, signature)
-                    == library::DONE
+                self.accepts(&Input::Digest(hash, ctx, hash_oid), signature)
             }
         }
 
@@ -190,9 +197,7 @@ macro_rules! prepared_keys {
             /// # Ok::<(), fips204::Error>(())
             /// ```
             pub fn message_hasher(&self, ctx: &[u8]) -> Result<MessageHasher, Error> {
-                MessageHasher::begun(|state| {
-                    calls::mu_begin_private(self.0.front(SK_LEN), ctx, state)
-                })
+                MessageHasher::of_private_key(PrivateKey::SET, self.0.front(SK_LEN), ctx)
             }
 
             /// Signs the hash `mu` of a message, with random bytes of the operating system's generator. Takes
@@ -212,7 +217,7 @@ macro_rules! prepared_keys {
             /// ```
             #[cfg(feature = "default-rng")]
             pub fn try_sign_mu(&self, mu: &[u8; 64]) -> Result<[u8; SIG_LEN], Error> {
-                self.try_sign_mu_with_rng(&mut crate::rng::SystemRng, mu)
+                self.try_sign_mu_with_rng(&mut crate::rng::system(), mu)
             }
 
             /// Signs the hash `mu` of a message, with 32 bytes of a generator, which is asked once. Takes
@@ -234,13 +239,13 @@ macro_rules! prepared_keys {
             /// # Ok(())
             /// # }
             /// ```
+            #[cfg(feature = "rand_core")]
             pub fn try_sign_mu_with_rng(
                 &self,
                 rng: &mut (impl RngCore + CryptoRng),
                 mu: &[u8; 64],
             ) -> Result<[u8; SIG_LEN], Error> {
-                let mut random = Wiped::zeros();
-                draw(rng, &mut random, set::MU_REFUSAL)?;
+                let random = drawn(rng, Fault::InternalRng)?;
                 self.try_sign_mu_with_seed(random.array(), mu)
             }
 
@@ -266,9 +271,16 @@ macro_rules! prepared_keys {
                 seed: &[u8; 32],
                 mu: &[u8; 64],
             ) -> Result<[u8; SIG_LEN], Error> {
-                let mut signature = [0; SIG_LEN];
-                let status = calls::sign_mu_prepared(self.0.given(), mu, seed, &mut signature);
-                Ok(answer(status, signature)?)
+                Ok(self.sign(seed, &Input::Mu(mu))?)
+            }
+
+            fn sign(
+                &self,
+                random: &[u8; 32],
+                input: &Input<'_>,
+            ) -> Result<[u8; SIG_LEN], &'static str> {
+                let key = self.0.given();
+                set::signed(|place| MlDsa::sign_prepared(PrivateKey::SET, key, random, input, place))
             }
         }
 
@@ -276,54 +288,13 @@ macro_rules! prepared_keys {
             type Signature = [u8; SIG_LEN];
             type PublicKey = PublicKey;
 
-            fn try_sign_with_rng(
-                &self,
-                rng: &mut (impl RngCore + CryptoRng),
-                message: &[u8],
-                ctx: &[u8],
-            ) -> Result<[u8; SIG_LEN], &'static str> {
-                if ctx.len() > 255 {
-                    return Err("ML-DSA.Sign: ctx too long");
-                }
-                let mut random = Wiped::zeros();
-                draw(
-                    rng,
-                    &mut random,
-                    "ML-DSA.Sign: random number generator failed",
-                )?;
-                self.try_sign_with_seed(random.array(), message, ctx)
-            }
-
             fn try_sign_with_seed(
                 &self,
                 seed: &[u8; 32],
                 message: &[u8],
                 ctx: &[u8],
             ) -> Result<[u8; SIG_LEN], &'static str> {
-                let mut signature = [0; SIG_LEN];
-                let status =
-                    calls::sign_prepared(self.0.given(), message, ctx, seed, &mut signature);
-                answer(status, signature)
-            }
-
-            fn try_hash_sign_with_rng(
-                &self,
-                rng: &mut (impl RngCore + CryptoRng),
-                hash: &[u8],
-                ctx: &[u8],
-                hash_oid: &[u8],
-            ) -> Result<[u8; SIG_LEN], &'static str> {
-                if ctx.len() > 255 {
-                    return Err("HashML-DSA.Sign: ctx too long");
-                }
-                answer(library::check_pre_hash(hash, hash_oid), ())?;
-                let mut random = Wiped::zeros();
-                draw(
-                    rng,
-                    &mut random,
-                    "HashML-DSA.Sign: random number generator failed",
-                )?;
-                self.try_hash_sign_with_seed(random.array(), hash, ctx, hash_oid)
+                self.sign(seed, &Input::Message(message, ctx))
             }
 
             fn try_hash_sign_with_seed(
@@ -333,20 +304,14 @@ macro_rules! prepared_keys {
                 ctx: &[u8],
                 hash_oid: &[u8],
             ) -> Result<[u8; SIG_LEN], &'static str> {
-                let mut signature = [0; SIG_LEN];
-                let key = self.0.given();
-                let status =
-                    calls::hash_sign_prepared(key, hash, ctx, hash_oid, seed, &mut signature);
-                answer(status, signature)
+                self.sign(seed, &Input::Digest(hash, ctx, hash_oid))
             }
 
             /// # Panics
             /// The key was wiped; or rejection sampling reached its limit, for which no key is known.
             fn get_public_key(&self) -> PublicKey {
                 // The bytes of the plain key come first.
-                let mut public = set::PublicKey(Wiped::zeros());
-                let status = calls::public_key(self.0.front(SK_LEN), public.0.array_mut());
-                answer(status, public).unwrap()
+                set::public_key(PrivateKey::SET, self.0.front(SK_LEN))
             }
         }
     };

@@ -1,14 +1,9 @@
 //! Generators of random bytes.
 
+use crate::proved::fips204_bytes::Fault;
+use crate::wiped::Wiped;
 use crate::{CryptoRng, RngCore, RngError};
 use core::num::NonZeroU32;
-
-/// Both traits of a generator in one bound. It has no name outside: `rand_core` has a trait of this name from 0.6.4 on, and whoever
-/// imports all of that and all of `traits` would have two.
-#[allow(dead_code)] // no set may be chosen
-pub trait CryptoRngCore: RngCore + CryptoRng {}
-
-impl<R: RngCore + CryptoRng + ?Sized> CryptoRngCore for R {}
 
 /// A generator that is one function, for a source of random bytes that has no type of `rand_core`. The function fills a slice and
 /// says whether it could; it has to be fit for cryptography.
@@ -62,61 +57,29 @@ impl<F> core::fmt::Debug for FillRng<F> {
     }
 }
 
-/// The operating system's generator: the call `getrandom` of Linux, which waits until the system has gathered enough, and reads no
-/// file.
+/// The operating system's generator.
 #[cfg(feature = "default-rng")]
-pub(crate) struct SystemRng;
-
-#[cfg(feature = "default-rng")]
-mod system {
-    unsafe extern "C" {
-        /// That of the C library, which is there with std.
-        pub(super) fn getrandom(out: *mut u8, len: usize, flags: u32) -> isize;
-    }
+pub(crate) fn system() -> impl RngCore + CryptoRng {
+    FillRng(|out: &mut [u8]| getrandom::getrandom(out).is_ok())
 }
 
-#[cfg(feature = "default-rng")]
-impl SystemRng {
-    fn filled(mut out: &mut [u8]) -> bool {
-        while !out.is_empty() {
-            // SAFETY: the pointer is not null, and as many bytes may be written there.
-            let count = unsafe { system::getrandom(out.as_mut_ptr(), out.len(), 0) };
-            match usize::try_from(count) {
-                Ok(count) if count > 0 => out = &mut out[count..],
-                Ok(_) => return false,
-                // A signal came before any byte.
-                Err(_) if interrupted() => {}
-                Err(_) => return false,
-            }
+/// A generator that gives these bytes, to whoever asks for as many.
+pub(crate) fn fixed(seed: &[u8; 32]) -> impl RngCore + CryptoRng {
+    FillRng(move |out: &mut [u8]| {
+        let fits = out.len() == seed.len();
+        if fits {
+            out.copy_from_slice(seed);
         }
-        true
-    }
+        fits
+    })
 }
 
-/// Whether the last call failed since a signal came.
-#[cfg(feature = "default-rng")]
-fn interrupted() -> bool {
-    std::io::Error::last_os_error().kind() == std::io::ErrorKind::Interrupted
+/// 32 bytes of a generator, or the text of the fault where it fails.
+pub(crate) fn drawn(
+    rng: &mut (impl RngCore + CryptoRng),
+    fault: Fault,
+) -> Result<Wiped<32>, &'static str> {
+    let mut bytes = Wiped::zeros();
+    let filled = rng.try_fill_bytes(bytes.array_mut());
+    filled.map(|()| bytes).map_err(|_| fault.as_str())
 }
-
-#[cfg(feature = "default-rng")]
-impl RngCore for SystemRng {
-    fn next_u32(&mut self) -> u32 {
-        FillRng(Self::filled).next_u32()
-    }
-
-    fn next_u64(&mut self) -> u64 {
-        FillRng(Self::filled).next_u64()
-    }
-
-    fn fill_bytes(&mut self, dest: &mut [u8]) {
-        FillRng(Self::filled).fill_bytes(dest);
-    }
-
-    fn try_fill_bytes(&mut self, dest: &mut [u8]) -> Result<(), RngError> {
-        FillRng(Self::filled).try_fill_bytes(dest)
-    }
-}
-
-#[cfg(feature = "default-rng")]
-impl CryptoRng for SystemRng {}

@@ -1,39 +1,24 @@
 //! What every parameter set has: its keys, which are generic over the set, and the items of its module.
 #![allow(dead_code)] // no set may be chosen
 
-use crate::library::{self, answer, calls_of_a_set};
+use crate::Error;
+use crate::error::{WRONG_LENGTH, why};
 use crate::pieces::MessageHasher;
-use crate::traits::{CryptoRngCore, SerDes, Signer, Verifier};
+use crate::proved::fips204_bytes::{Input, Refusal, SetName};
+use crate::proved::fips204_shake::MlDsa;
+use crate::traits::{SerDes, Signer, Verifier};
 use crate::wiped::{Held, Wiped, held, shows_nothing, wipe};
-use crate::{CryptoRng, Error, RngCore};
+#[cfg(feature = "rand_core")]
+use crate::{CryptoRng, RngCore, proved::fips204_bytes::Fault, rng::drawn};
 
 /// A parameter set, by the lengths of a public key, a private key and a signature.
 #[derive(Debug)]
 pub struct Set<const PK: usize, const SK: usize, const SIG: usize>;
 
-/// Declares a trait of calls. A slice before the arrow is read, and one after it is written.
-macro_rules! trait_of_calls {
-    ($trait:ident: $($name:ident($($read:ident),*) => ($($written:ident),*);)*) => {
-        /// The calls of the library for a set. Each returns a status.
-        pub trait $trait {
-            $(fn $name($($read: &[u8],)* $($written: &mut [u8],)*) -> u32;)*
-        }
-    };
-}
-calls_of_a_set!(trait_of_calls!(Calls));
-
-/// Makes the calls of a module of `library` those of the set whose lengths the module has in which this stands.
-#[cfg(any(feature = "ml-dsa-44", feature = "ml-dsa-65", feature = "ml-dsa-87"))]
-macro_rules! calls_of_module {
-    ($calls:ident: $($name:ident($($read:ident),*) => ($($written:ident),*);)*) => {
-        impl set::Calls for set::Set<PK_LEN, SK_LEN, SIG_LEN> {
-            $(
-                fn $name($($read: &[u8],)* $($written: &mut [u8],)*) -> u32 {
-                    library::$calls::$name($($read,)* $($written,)*)
-                }
-            )*
-        }
-    };
+/// A set that has a name, by which the proved calls know it.
+pub trait Named {
+    /// The name.
+    const NAME: SetName;
 }
 
 /// A private key, which is wiped when it is dropped. With the feature `alloc` it is a pointer to its bytes, so that a move leaves no
@@ -45,9 +30,6 @@ pub struct PrivateKey<const PK: usize, const SK: usize, const SIG: usize>(pub(cr
 #[derive(Clone)]
 pub struct PublicKey<const PK: usize, const SK: usize, const SIG: usize>(pub(crate) Wiped<PK>);
 
-/// The error where a generator fails of which a hash mu is signed.
-pub(crate) const MU_REFUSAL: &str = "ML-DSA.Sign_internal: random number generator failed";
-
 /// A pair of keys of a set.
 type Pair<const PK: usize, const SK: usize, const SIG: usize> =
     (PublicKey<PK, SK, SIG>, PrivateKey<PK, SK, SIG>);
@@ -55,40 +37,57 @@ type Pair<const PK: usize, const SK: usize, const SIG: usize> =
 shows_nothing!(PrivateKey<PK, SK, SIG>);
 shows_nothing!(PublicKey<PK, SK, SIG>);
 
-/// Draws 32 bytes of a generator into their place.
-pub(crate) fn draw(
-    rng: &mut impl CryptoRngCore,
-    bytes: &mut Wiped<32>,
-    refusal: &'static str,
-) -> Result<(), &'static str> {
-    rng.try_fill_bytes(bytes.array_mut()).map_err(|_| refusal)
-}
-
 /// The key pair of a seed.
 pub(crate) fn keygen<const PK: usize, const SK: usize, const SIG: usize>(
     xi: &[u8; 32],
 ) -> Result<Pair<PK, SK, SIG>, &'static str>
 where
-    Set<PK, SK, SIG>: Calls,
+    Set<PK, SK, SIG>: Named,
 {
     let mut public = PublicKey(Wiped::zeros());
     let mut private = PrivateKey(held());
-    let status = Set::<PK, SK, SIG>::keygen(xi, public.0.array_mut(), private.0.array_mut());
-    answer(status, (public, private))
+    let set = Set::<PK, SK, SIG>::NAME;
+    let made = MlDsa::keygen(set, xi, public.0.array_mut(), private.0.array_mut());
+    made.map(|()| (public, private)).map_err(why)
 }
 
-/// The result of a question of the library.
-pub(crate) fn yes(status: u32) -> Result<bool, Error> {
-    match status {
-        library::NO => Ok(false),
-        status => Ok(answer(status, true)?),
-    }
+/// The public key of a private one, which is given by its bytes.
+pub(crate) fn public_key<const PK: usize, const SK: usize, const SIG: usize>(
+    set: SetName,
+    private: &[u8],
+) -> PublicKey<PK, SK, SIG> {
+    let mut public = PublicKey(Wiped::zeros());
+    let made = MlDsa::public_key(set, private, public.0.array_mut());
+    made.map_err(why).unwrap();
+    public
+}
+
+/// The signature that a call writes.
+pub(crate) fn signed<const SIG: usize>(
+    write: impl FnOnce(&mut [u8]) -> Result<(), Refusal>,
+) -> Result<[u8; SIG], &'static str> {
+    let mut signature = [0; SIG];
+    write(&mut signature).map(|()| signature).map_err(why)
 }
 
 impl<const PK: usize, const SK: usize, const SIG: usize> PrivateKey<PK, SK, SIG>
 where
-    Set<PK, SK, SIG>: Calls,
+    Set<PK, SK, SIG>: Named,
 {
+    pub(crate) const SET: SetName = Set::<PK, SK, SIG>::NAME;
+
+    fn sign(&self, random: &[u8; 32], input: &Input<'_>) -> Result<[u8; SIG], &'static str> {
+        signed(|signature| MlDsa::sign(Self::SET, self.0.given(), random, input, signature))
+    }
+
+    /// The key of these bytes, which are copied once, to where it keeps them.
+    fn checked(bytes: &[u8; SK]) -> Result<Self, &'static str> {
+        let mut key = PrivateKey(held());
+        key.0.array_mut().copy_from_slice(bytes);
+        let done = MlDsa::check_private_key(Self::SET, key.0.given());
+        done.map(|()| key).map_err(why)
+    }
+
     /// The bytes of the key, where it keeps them.
     ///
     /// ```
@@ -128,7 +127,7 @@ where
     /// # Ok::<(), &'static str>(())
     /// ```
     pub fn is_whole(&self) -> Result<bool, Error> {
-        yes(Set::<PK, SK, SIG>::is_whole(self.0.given()))
+        Ok(MlDsa::is_whole(Self::SET, self.0.given()).map_err(why)?)
     }
 
     /// Whether the key works: whether what it signs verifies under the public key that `get_public_key` returns,
@@ -151,7 +150,7 @@ where
     /// # Ok::<(), &'static str>(())
     /// ```
     pub fn is_pair(&self) -> Result<bool, Error> {
-        yes(Set::<PK, SK, SIG>::is_pair(self.0.given()))
+        Ok(MlDsa::is_pair(Self::SET, self.0.given()).map_err(why)?)
     }
 
     /// Begins a message in pieces, which `try_sign_mu_with_rng` then signs. Takes [`STACK_MU`](crate::STACK_MU) bytes of stack.
@@ -175,9 +174,7 @@ where
     /// # Ok::<(), &'static str>(())
     /// ```
     pub fn message_hasher(&self, ctx: &[u8]) -> Result<MessageHasher, Error> {
-        MessageHasher::begun(|state| {
-            Set::<PK, SK, SIG>::mu_begin_private(self.0.given(), ctx, state)
-        })
+        MessageHasher::of_private_key(Self::SET, self.0.given(), ctx)
     }
 
     /// Signs the hash `mu` of a message, with random bytes of the operating system's generator. Takes `stack::SIGN` bytes of
@@ -202,7 +199,7 @@ where
     /// ```
     #[cfg(feature = "default-rng")]
     pub fn try_sign_mu(&self, mu: &[u8; 64]) -> Result<[u8; SIG], Error> {
-        self.try_sign_mu_with_rng(&mut crate::rng::SystemRng, mu)
+        self.try_sign_mu_with_rng(&mut crate::rng::system(), mu)
     }
 
     /// Signs the hash `mu` of a message, with 32 bytes of a generator, which is asked once. Takes `stack::SIGN` bytes of stack.
@@ -224,13 +221,13 @@ where
     /// # }
     /// # }
     /// ```
+    #[cfg(feature = "rand_core")]
     pub fn try_sign_mu_with_rng(
         &self,
         rng: &mut (impl RngCore + CryptoRng),
         mu: &[u8; 64],
     ) -> Result<[u8; SIG], Error> {
-        let mut random = Wiped::zeros();
-        draw(rng, &mut random, MU_REFUSAL)?;
+        let random = drawn(rng, Fault::InternalRng)?;
         self.try_sign_mu_with_seed(random.array(), mu)
     }
 
@@ -258,9 +255,7 @@ where
         seed: &[u8; 32],
         mu: &[u8; 64],
     ) -> Result<[u8; SIG], Error> {
-        let mut signature = [0; SIG];
-        let status = Set::<PK, SK, SIG>::sign_mu(self.0.given(), mu, seed, &mut signature);
-        Ok(answer(status, signature)?)
+        Ok(self.sign(seed, &Input::Mu(mu))?)
     }
 
     /// Signs the hash `mu` of a framed message (Algorithm 7 from line 7 on): with random bytes of the generator, or
@@ -288,11 +283,11 @@ where
         mu: &[u8; 64],
         hedged: bool,
     ) -> Result<[u8; SIG], &'static str> {
-        let mut random = Wiped::zeros();
         if hedged {
-            draw(rng, &mut random, MU_REFUSAL)?;
+            Ok(self.try_sign_mu_with_rng(rng, mu)?)
+        } else {
+            Ok(self.try_sign_mu_with_seed(&[0; 32], mu)?)
         }
-        Ok(self.try_sign_mu_with_seed(random.array(), mu)?)
     }
 }
 
@@ -334,8 +329,14 @@ impl<const PK: usize, const SK: usize, const SIG: usize> PublicKey<PK, SK, SIG> 
 
 impl<const PK: usize, const SK: usize, const SIG: usize> PublicKey<PK, SK, SIG>
 where
-    Set<PK, SK, SIG>: Calls,
+    Set<PK, SK, SIG>: Named,
 {
+    pub(crate) const SET: SetName = Set::<PK, SK, SIG>::NAME;
+
+    fn accepts(&self, input: &Input<'_>, signature: &[u8; SIG]) -> bool {
+        MlDsa::verify(Self::SET, self.0.given(), input, signature) == Ok(true)
+    }
+
     /// Begins a message in pieces, which `verify_mu` then verifies. Takes [`STACK_MU`](crate::STACK_MU) bytes of stack.
     ///
     /// # Errors
@@ -356,7 +357,7 @@ where
     /// # Ok::<(), &'static str>(())
     /// ```
     pub fn message_hasher(&self, ctx: &[u8]) -> Result<MessageHasher, Error> {
-        MessageHasher::begun(|state| Set::<PK, SK, SIG>::mu_begin(self.0.given(), ctx, state))
+        MessageHasher::of_public_key(Self::SET, self.0.given(), ctx)
     }
 
     /// Whether the key accepts the signature of the hash `mu` of a message (Algorithm 8, with mu given). False for a key that was
@@ -378,34 +379,16 @@ where
     /// ```
     #[must_use]
     pub fn verify_mu(&self, mu: &[u8; 64], sig: &[u8; SIG]) -> bool {
-        Set::<PK, SK, SIG>::verify_mu(self.0.given(), mu, sig) == library::DONE
+        self.accepts(&Input::Mu(mu), sig)
     }
 }
 
 impl<const PK: usize, const SK: usize, const SIG: usize> Signer for PrivateKey<PK, SK, SIG>
 where
-    Set<PK, SK, SIG>: Calls,
+    Set<PK, SK, SIG>: Named,
 {
     type Signature = [u8; SIG];
     type PublicKey = PublicKey<PK, SK, SIG>;
-
-    fn try_sign_with_rng(
-        &self,
-        rng: &mut (impl RngCore + CryptoRng),
-        message: &[u8],
-        ctx: &[u8],
-    ) -> Result<[u8; SIG], &'static str> {
-        if ctx.len() > 255 {
-            return Err("ML-DSA.Sign: ctx too long");
-        }
-        let mut random = Wiped::zeros();
-        draw(
-            rng,
-            &mut random,
-            "ML-DSA.Sign: random number generator failed",
-        )?;
-        self.try_sign_with_seed(random.array(), message, ctx)
-    }
 
     fn try_sign_with_seed(
         &self,
@@ -413,29 +396,7 @@ where
         message: &[u8],
         ctx: &[u8],
     ) -> Result<[u8; SIG], &'static str> {
-        let mut signature = [0; SIG];
-        let status = Set::<PK, SK, SIG>::sign(self.0.given(), message, ctx, seed, &mut signature);
-        answer(status, signature)
-    }
-
-    fn try_hash_sign_with_rng(
-        &self,
-        rng: &mut (impl RngCore + CryptoRng),
-        hash: &[u8],
-        ctx: &[u8],
-        hash_oid: &[u8],
-    ) -> Result<[u8; SIG], &'static str> {
-        if ctx.len() > 255 {
-            return Err("HashML-DSA.Sign: ctx too long");
-        }
-        answer(library::check_pre_hash(hash, hash_oid), ())?;
-        let mut random = Wiped::zeros();
-        draw(
-            rng,
-            &mut random,
-            "HashML-DSA.Sign: random number generator failed",
-        )?;
-        self.try_hash_sign_with_seed(random.array(), hash, ctx, hash_oid)
+        self.sign(seed, &Input::Message(message, ctx))
     }
 
     fn try_hash_sign_with_seed(
@@ -445,46 +406,34 @@ where
         ctx: &[u8],
         hash_oid: &[u8],
     ) -> Result<[u8; SIG], &'static str> {
-        let mut signature = [0; SIG];
-        let status = Set::<PK, SK, SIG>::hash_sign(
-            self.0.given(),
-            hash,
-            ctx,
-            hash_oid,
-            seed,
-            &mut signature,
-        );
-        answer(status, signature)
+        self.sign(seed, &Input::Digest(hash, ctx, hash_oid))
     }
 
     /// # Panics
     /// The key was wiped; or rejection sampling reached its limit, for which no key is known.
     fn get_public_key(&self) -> PublicKey<PK, SK, SIG> {
-        let mut public = PublicKey(Wiped::zeros());
-        let status = Set::<PK, SK, SIG>::public_key(self.0.given(), public.0.array_mut());
-        answer(status, public).unwrap()
+        public_key(Self::SET, self.0.given())
     }
 }
 
 impl<const PK: usize, const SK: usize, const SIG: usize> Verifier for PublicKey<PK, SK, SIG>
 where
-    Set<PK, SK, SIG>: Calls,
+    Set<PK, SK, SIG>: Named,
 {
     type Signature = [u8; SIG];
 
     fn verify(&self, message: &[u8], signature: &[u8; SIG], ctx: &[u8]) -> bool {
-        Set::<PK, SK, SIG>::verify(self.0.given(), message, ctx, signature) == library::DONE
+        self.accepts(&Input::Message(message, ctx), signature)
     }
 
     fn hash_verify(&self, hash: &[u8], signature: &[u8; SIG], ctx: &[u8], hash_oid: &[u8]) -> bool {
-        Set::<PK, SK, SIG>::hash_verify(self.0.given(), hash, ctx, hash_oid, signature)
-            == library::DONE
+        self.accepts(&Input::Digest(hash, ctx, hash_oid), signature)
     }
 }
 
 impl<const PK: usize, const SK: usize, const SIG: usize> SerDes for PrivateKey<PK, SK, SIG>
 where
-    Set<PK, SK, SIG>: Calls,
+    Set<PK, SK, SIG>: Named,
 {
     type ByteArray = [u8; SK];
 
@@ -493,10 +442,9 @@ where
     }
 
     fn try_from_bytes(mut ba: [u8; SK]) -> Result<Self, &'static str> {
-        let mut key = PrivateKey(held());
-        key.0.array_mut().copy_from_slice(&ba);
+        let key = Self::checked(&ba);
         wipe(&mut ba);
-        answer(Set::<PK, SK, SIG>::check_private_key(key.0.given()), key)
+        key
     }
 }
 
@@ -518,16 +466,13 @@ impl<const PK: usize, const SK: usize, const SIG: usize> SerDes for PublicKey<PK
 /// to where the key keeps them.
 impl<const PK: usize, const SK: usize, const SIG: usize> TryFrom<&[u8]> for PrivateKey<PK, SK, SIG>
 where
-    Set<PK, SK, SIG>: Calls,
+    Set<PK, SK, SIG>: Named,
 {
     type Error = Error;
 
     fn try_from(bytes: &[u8]) -> Result<Self, Error> {
-        let bytes: &[u8; SK] = bytes.try_into().map_err(|_| library::error(2))?;
-        let mut key = PrivateKey(held());
-        key.0.array_mut().copy_from_slice(bytes);
-        let status = Set::<PK, SK, SIG>::check_private_key(key.0.given());
-        Ok(answer(status, key)?)
+        let bytes: &[u8; SK] = bytes.try_into().map_err(|_| WRONG_LENGTH)?;
+        Ok(Self::checked(bytes)?)
     }
 }
 
@@ -536,7 +481,7 @@ impl<const PK: usize, const SK: usize, const SIG: usize> TryFrom<&[u8]> for Publ
     type Error = Error;
 
     fn try_from(bytes: &[u8]) -> Result<Self, Error> {
-        let bytes: &[u8; PK] = bytes.try_into().map_err(|_| library::error(2))?;
+        let bytes: &[u8; PK] = bytes.try_into().map_err(|_| WRONG_LENGTH)?;
         Ok(PublicKey::try_from_bytes(*bytes)?)
     }
 }
@@ -564,16 +509,20 @@ impl<const PK: usize, const SK: usize, const SIG: usize> core::hash::Hash
     }
 }
 
-/// The items of a set's module: its name, the calls of the library, and the lengths of a public key, a private key and a signature.
+/// The items of a set's module: its name, that of the set, and the lengths of a public key, a private key and a signature.
 #[cfg(any(feature = "ml-dsa-44", feature = "ml-dsa-65", feature = "ml-dsa-87"))]
 macro_rules! parameter_set {
-    ($name:literal, $calls:ident, $pk_len:literal, $sk_len:literal, $sig_len:literal) => {
-        use crate::library::{self, $calls as calls, answer, calls_of_a_set};
+    ($name:literal, $set:ident, $pk_len:literal, $sk_len:literal, $sig_len:literal) => {
         use crate::pieces::MessageHasher;
-        use crate::set::{self, calls_of_module, draw};
+        use crate::set::{self, Named, Set};
         use crate::traits::{KeyGen, Signer, Verifier};
         use crate::wiped::{Held, Wiped, held, shows_nothing};
-        use crate::{CryptoRng, Error, RngCore};
+        use crate::Error;
+        use crate::error::why;
+        use crate::proved::fips204_bytes::{Input, SetName};
+        use crate::proved::fips204_shake::MlDsa;
+        #[cfg(feature = "rand_core")]
+        use crate::{CryptoRng, RngCore, rng::drawn, proved::fips204_bytes::Fault};
 
         /// The number of bytes of a private key.
         pub const SK_LEN: usize = $sk_len;
@@ -592,7 +541,9 @@ macro_rules! parameter_set {
         #[cfg(feature = "signature")]
         pub type Signature = crate::signatures::Signature<SIG_LEN>;
 
-        calls_of_a_set!(calls_of_module!($calls));
+        impl Named for Set<PK_LEN, SK_LEN, SIG_LEN> {
+            const NAME: SetName = SetName::$set;
+        }
 
         /// Key generation.
         #[derive(Debug)]
@@ -631,6 +582,7 @@ macro_rules! parameter_set {
         /// # Ok(())
         /// # }
         /// ```
+        #[cfg(feature = "rand_core")]
         pub fn try_keygen_with_rng(
             rng: &mut (impl RngCore + CryptoRng),
         ) -> Result<(PublicKey, PrivateKey), &'static str> {
@@ -640,14 +592,6 @@ macro_rules! parameter_set {
         impl KeyGen for KG {
             type PublicKey = PublicKey;
             type PrivateKey = PrivateKey;
-
-            fn try_keygen_with_rng(
-                rng: &mut (impl RngCore + CryptoRng),
-            ) -> Result<(PublicKey, PrivateKey), &'static str> {
-                let mut xi = Wiped::zeros();
-                draw(rng, &mut xi, "KeyGen: Random number generator failed")?;
-                Ok(KG::keygen_from_seed(xi.array()))
-            }
 
             /// # Panics
             /// Rejection sampling reached its limit, for which no seed is known.
@@ -675,4 +619,4 @@ macro_rules! stack {
 }
 
 #[cfg(any(feature = "ml-dsa-44", feature = "ml-dsa-65", feature = "ml-dsa-87"))]
-pub(crate) use {calls_of_module, parameter_set, stack};
+pub(crate) use {parameter_set, stack};

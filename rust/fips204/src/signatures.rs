@@ -1,6 +1,6 @@
 //! The traits of the crate `signature` 2.
 
-use crate::set::{Calls, PrivateKey, PublicKey, Set};
+use crate::set::{Named, PrivateKey, PublicKey, Set};
 use crate::traits::{Signer, Verifier};
 use crate::{CryptoRng, RngCore};
 use signature::Error;
@@ -63,7 +63,7 @@ impl<const SIG: usize> signature::SignatureEncoding for Signature<SIG> {
 impl<const PK: usize, const SK: usize, const SIG: usize> signature::Signer<Signature<SIG>>
     for PrivateKey<PK, SK, SIG>
 where
-    Set<PK, SK, SIG>: Calls,
+    Set<PK, SK, SIG>: Named,
 {
     fn try_sign(&self, message: &[u8]) -> Result<Signature<SIG>, Error> {
         let signed = self.try_sign_with_seed(&[0; 32], message, b"");
@@ -75,7 +75,7 @@ where
 impl<const PK: usize, const SK: usize, const SIG: usize> signature::RandomizedSigner<Signature<SIG>>
     for PrivateKey<PK, SK, SIG>
 where
-    Set<PK, SK, SIG>: Calls,
+    Set<PK, SK, SIG>: Named,
 {
     fn try_sign_with_rng(
         &self,
@@ -91,7 +91,7 @@ where
 impl<const PK: usize, const SK: usize, const SIG: usize> signature::Verifier<Signature<SIG>>
     for PublicKey<PK, SK, SIG>
 where
-    Set<PK, SK, SIG>: Calls,
+    Set<PK, SK, SIG>: Named,
 {
     fn verify(&self, message: &[u8], signature: &Signature<SIG>) -> Result<(), Error> {
         match Verifier::verify(self, message, &signature.0, b"") {
@@ -104,7 +104,7 @@ where
 impl<const PK: usize, const SK: usize, const SIG: usize> signature::Keypair
     for PrivateKey<PK, SK, SIG>
 where
-    Set<PK, SK, SIG>: Calls,
+    Set<PK, SK, SIG>: Named,
 {
     type VerifyingKey = PublicKey<PK, SK, SIG>;
 

@@ -4,21 +4,27 @@
 //! the stack is in the module `stack` of each set, as `ml_dsa_65::stack`; with a prepared key `SIGN` and `VERIFY` are `SIGN_PREPARED`
 //! and `VERIFY_PREPARED`. Keys are `Send` and `Sync`: any number of threads may use one at the same time.
 
-#[allow(unused_imports)] // no set may be chosen
-pub(crate) use crate::rng::CryptoRngCore;
 #[cfg(feature = "default-rng")]
-pub(crate) use crate::rng::SystemRng;
-use crate::{CryptoRng, FillRng, RngCore};
+use crate::rng::system;
+#[cfg(feature = "rand_core")]
+use crate::{
+    CryptoRng, RngCore,
+    proved::fips204::ml_dsa::check_input,
+    proved::fips204_bytes::{Fault, Input},
+    rng::{drawn, fixed},
+};
 
-/// A generator that gives these bytes, to whoever asks for as many.
-fn fixed(seed: &[u8; 32]) -> impl RngCore + CryptoRng {
-    FillRng(move |out: &mut [u8]| {
-        let fits = out.len() == seed.len();
-        if fits {
-            out.copy_from_slice(seed);
-        }
-        fits
-    })
+/// Declares a method that has a body if generators are known, so with the feature `rand_core` alone.
+macro_rules! of_a_generator {
+    ($(#[$attribute:meta])* fn $name:ident $arguments:tt -> $result:ty $body:block) => {
+        $(#[$attribute])*
+        #[cfg(feature = "rand_core")]
+        fn $name $arguments -> $result $body
+
+        $(#[$attribute])*
+        #[cfg(not(feature = "rand_core"))]
+        fn $name $arguments -> $result;
+    };
 }
 
 /// Key generation (FIPS 204, Algorithm 1).
@@ -48,7 +54,7 @@ pub trait KeyGen {
     /// ```
     #[cfg(feature = "default-rng")]
     fn try_keygen() -> Result<(Self::PublicKey, Self::PrivateKey), &'static str> {
-        Self::try_keygen_with_rng(&mut SystemRng)
+        Self::try_keygen_with_rng(&mut system())
     }
 
     /// Makes a key pair from 32 bytes of a generator, which is asked once. Takes `stack::KEYGEN` bytes of stack.
@@ -72,9 +78,13 @@ pub trait KeyGen {
     /// # }
     /// # Ok::<(), &'static str>(())
     /// ```
+    #[cfg(feature = "rand_core")]
     fn try_keygen_with_rng(
         rng: &mut (impl RngCore + CryptoRng),
-    ) -> Result<(Self::PublicKey, Self::PrivateKey), &'static str>;
+    ) -> Result<(Self::PublicKey, Self::PrivateKey), &'static str> {
+        let xi = drawn(rng, Fault::KeyGenRng)?;
+        Ok(Self::keygen_from_seed(xi.array()))
+    }
 
     /// Makes the key pair of a seed (Algorithm 6). Whoever has the seed has the private key. Takes `stack::KEYGEN` bytes of stack.
     ///
@@ -124,7 +134,7 @@ pub trait Signer {
     /// ```
     #[cfg(feature = "default-rng")]
     fn try_sign(&self, message: &[u8], ctx: &[u8]) -> Result<Self::Signature, &'static str> {
-        self.try_sign_with_rng(&mut SystemRng, message, ctx)
+        self.try_sign_with_rng(&mut system(), message, ctx)
     }
 
     /// Signs a message under a context, with 32 bytes of a generator, which is asked once. Takes `stack::SIGN` bytes of stack.
@@ -146,41 +156,48 @@ pub trait Signer {
     /// # }
     /// # Ok::<(), &'static str>(())
     /// ```
+    #[cfg(feature = "rand_core")]
     fn try_sign_with_rng(
         &self,
         rng: &mut (impl RngCore + CryptoRng),
         message: &[u8],
         ctx: &[u8],
-    ) -> Result<Self::Signature, &'static str>;
-
-    /// Signs a message under a context, with these random bytes. 32 zeros give the deterministic variant. Takes `stack::SIGN` bytes
-    /// of stack.
-    ///
-    /// # Errors
-    /// Those of `try_sign_with_rng`, without a generator's.
-    ///
-    /// ```
-    /// # #[cfg(feature = "ml-dsa-65")] {
-    /// use fips204::ml_dsa_65::KG;
-    /// use fips204::traits::{KeyGen, Signer};
-    ///
-    /// let (public, private) = KG::keygen_from_seed(&[7; 32]); // a seed is secret, and random
-    /// let signature = private.try_sign_with_seed(&[0; 32], b"a message", b"a context")?;
-    /// assert_eq!(signature, private.try_sign_with_seed(&[0; 32], b"a message", b"a context")?);
-    ///
-    /// let refused = private.try_sign_with_seed(&[0; 32], b"a message", &[0; 256]);
-    /// assert_eq!(refused, Err("ML-DSA.Sign: ctx too long"));
-    /// # let _ = public;
-    /// # }
-    /// # Ok::<(), &'static str>(())
-    /// ```
-    fn try_sign_with_seed(
-        &self,
-        seed: &[u8; 32],
-        message: &[u8],
-        ctx: &[u8],
     ) -> Result<Self::Signature, &'static str> {
-        self.try_sign_with_rng(&mut fixed(seed), message, ctx)
+        check_input(&Input::Message(message, ctx)).map_err(|fault| fault.as_str())?;
+        let random = drawn(rng, Fault::SignRng)?;
+        self.try_sign_with_seed(random.array(), message, ctx)
+    }
+
+    of_a_generator! {
+        /// Signs a message under a context, with these random bytes. 32 zeros give the deterministic variant. Takes `stack::SIGN` bytes
+        /// of stack.
+        ///
+        /// # Errors
+        /// Those of `try_sign_with_rng`, without a generator's.
+        ///
+        /// ```
+        /// # #[cfg(feature = "ml-dsa-65")] {
+        /// use fips204::ml_dsa_65::KG;
+        /// use fips204::traits::{KeyGen, Signer};
+        ///
+        /// let (public, private) = KG::keygen_from_seed(&[7; 32]); // a seed is secret, and random
+        /// let signature = private.try_sign_with_seed(&[0; 32], b"a message", b"a context")?;
+        /// assert_eq!(signature, private.try_sign_with_seed(&[0; 32], b"a message", b"a context")?);
+        ///
+        /// let refused = private.try_sign_with_seed(&[0; 32], b"a message", &[0; 256]);
+        /// assert_eq!(refused, Err("ML-DSA.Sign: ctx too long"));
+        /// # let _ = public;
+        /// # }
+        /// # Ok::<(), &'static str>(())
+        /// ```
+        fn try_sign_with_seed(
+            &self,
+            seed: &[u8; 32],
+            message: &[u8],
+            ctx: &[u8],
+        ) -> Result<Self::Signature, &'static str> {
+            self.try_sign_with_rng(&mut fixed(seed), message, ctx)
+        }
     }
 
     /// Signs a digest under a context, with random bytes of the operating system's generator. Takes `stack::SIGN` bytes of stack.
@@ -207,7 +224,7 @@ pub trait Signer {
         ctx: &[u8],
         hash_oid: &[u8],
     ) -> Result<Self::Signature, &'static str> {
-        self.try_hash_sign_with_rng(&mut SystemRng, hash, ctx, hash_oid)
+        self.try_hash_sign_with_rng(&mut system(), hash, ctx, hash_oid)
     }
 
     /// Signs a digest under a context, with 32 bytes of a generator, which is asked once. `hash_oid` is the object identifier,
@@ -233,42 +250,49 @@ pub trait Signer {
     /// # }
     /// # Ok::<(), &'static str>(())
     /// ```
+    #[cfg(feature = "rand_core")]
     fn try_hash_sign_with_rng(
         &self,
         rng: &mut (impl RngCore + CryptoRng),
         hash: &[u8],
         ctx: &[u8],
         hash_oid: &[u8],
-    ) -> Result<Self::Signature, &'static str>;
-
-    /// Signs a digest under a context, with these random bytes. Takes `stack::SIGN` bytes of stack.
-    ///
-    /// # Errors
-    /// Those of `try_hash_sign_with_rng`, without a generator's.
-    ///
-    /// ```
-    /// # #[cfg(feature = "ml-dsa-65")] {
-    /// use fips204::traits::{KeyGen, Signer};
-    /// use fips204::{ml_dsa_65::KG, pre_hash};
-    ///
-    /// let digest = [5; 32]; // stands for the SHA-256 of a message
-    /// let (public, private) = KG::keygen_from_seed(&[7; 32]); // a seed is secret, and random
-    /// let signature = private.try_hash_sign_with_seed(&[0; 32], &digest, b"", &pre_hash::SHA2_256)?;
-    ///
-    /// let refused = private.try_hash_sign_with_seed(&[0; 32], b"a message", b"", &pre_hash::SHA2_256);
-    /// assert_eq!(refused, Err("HashML-DSA.Sign: digest length does not match the OID"));
-    /// # let _ = (public, signature);
-    /// # }
-    /// # Ok::<(), &'static str>(())
-    /// ```
-    fn try_hash_sign_with_seed(
-        &self,
-        seed: &[u8; 32],
-        hash: &[u8],
-        ctx: &[u8],
-        hash_oid: &[u8],
     ) -> Result<Self::Signature, &'static str> {
-        self.try_hash_sign_with_rng(&mut fixed(seed), hash, ctx, hash_oid)
+        check_input(&Input::Digest(hash, ctx, hash_oid)).map_err(|fault| fault.as_str())?;
+        let random = drawn(rng, Fault::HashRng)?;
+        self.try_hash_sign_with_seed(random.array(), hash, ctx, hash_oid)
+    }
+
+    of_a_generator! {
+        /// Signs a digest under a context, with these random bytes. Takes `stack::SIGN` bytes of stack.
+        ///
+        /// # Errors
+        /// Those of `try_hash_sign_with_rng`, without a generator's.
+        ///
+        /// ```
+        /// # #[cfg(feature = "ml-dsa-65")] {
+        /// use fips204::traits::{KeyGen, Signer};
+        /// use fips204::{ml_dsa_65::KG, pre_hash};
+        ///
+        /// let digest = [5; 32]; // stands for the SHA-256 of a message
+        /// let (public, private) = KG::keygen_from_seed(&[7; 32]); // a seed is secret, and random
+        /// let signature = private.try_hash_sign_with_seed(&[0; 32], &digest, b"", &pre_hash::SHA2_256)?;
+        ///
+        /// let refused = private.try_hash_sign_with_seed(&[0; 32], b"a message", b"", &pre_hash::SHA2_256);
+        /// assert_eq!(refused, Err("HashML-DSA.Sign: digest length does not match the OID"));
+        /// # let _ = (public, signature);
+        /// # }
+        /// # Ok::<(), &'static str>(())
+        /// ```
+        fn try_hash_sign_with_seed(
+            &self,
+            seed: &[u8; 32],
+            hash: &[u8],
+            ctx: &[u8],
+            hash_oid: &[u8],
+        ) -> Result<Self::Signature, &'static str> {
+            self.try_hash_sign_with_rng(&mut fixed(seed), hash, ctx, hash_oid)
+        }
     }
 
     /// The public key that belongs to the private one. Takes `stack::PUBLIC_KEY` bytes of stack.

@@ -2,7 +2,6 @@
 #![allow(dead_code)] // no set may be chosen
 
 use core::borrow::BorrowMut;
-use core::sync::atomic::{Ordering, compiler_fence};
 
 /// Where the bytes of a private key lie: with the feature `alloc` in a place of their own, so that they are not copied when the key
 /// is moved.
@@ -24,13 +23,17 @@ fn place<const N: usize>() -> Place<N> {
     [0; N]
 }
 
-/// Overwrites bytes with zeros, in a way that a compiler keeps.
+/// Overwrites bytes with zeros. A compiler keeps that, though nothing reads them: `zeroize` writes them as volatile ones; and what
+/// `black_box` is given may be read there, for all that the compiler knows.
 pub(crate) fn wipe(bytes: &mut [u8]) {
-    for byte in bytes {
-        // SAFETY: the reference may be written.
-        unsafe { core::ptr::write_volatile(byte, 0) }
+    #[cfg(feature = "zeroize")]
+    zeroize::Zeroize::zeroize(bytes);
+    #[cfg(not(feature = "zeroize"))]
+    {
+        bytes.fill(0);
+        core::hint::black_box(bytes);
+        core::sync::atomic::compiler_fence(core::sync::atomic::Ordering::SeqCst);
     }
-    compiler_fence(Ordering::SeqCst);
 }
 
 /// An array that is overwritten with zeros when it is dropped.
@@ -74,15 +77,6 @@ impl<const N: usize, P: BorrowMut<[u8; N]>> Wiped<N, P> {
     /// What a call of the library is given to read: no bytes once they were wiped, which each call rejects.
     pub(crate) fn given(&self) -> &[u8] {
         if self.is_wiped { &[] } else { self.array() }
-    }
-
-    /// What a call of the library is given to read and write.
-    pub(crate) fn given_mut(&mut self) -> &mut [u8] {
-        if self.is_wiped {
-            &mut []
-        } else {
-            self.array_mut()
-        }
     }
 
     /// The first `count` of the bytes that a call is given.
@@ -161,16 +155,16 @@ pub(crate) use shows_nothing;
 #[cfg(test)]
 mod tests {
     use super::{Wiped, held};
-    use core::mem::ManuallyDrop;
 
     /// Where the array was there are zeros once it is dropped.
     #[test]
     fn dropping_overwrites() {
-        let mut place = ManuallyDrop::new(Wiped::<100>::zeros());
-        place.array_mut().fill(7);
-        // SAFETY: the value is dropped once. What is read then has nothing else to drop, and is still there.
-        unsafe { ManuallyDrop::drop(&mut place) }
-        assert_eq!(place.array(), &[0; 100]);
+        let mut place = [7; 100];
+        drop(Wiped {
+            place: &mut place,
+            is_wiped: false,
+        });
+        assert_eq!(place, [0; 100]);
     }
 
     /// No call is given what was wiped, nor a copy of it.
@@ -184,7 +178,6 @@ mod tests {
         let mut copy = value.clone();
         for it in [&mut value, &mut copy] {
             assert_eq!((it.given(), it.front(2)), (&[][..], &[][..]));
-            assert!(it.given_mut().is_empty());
         }
     }
 

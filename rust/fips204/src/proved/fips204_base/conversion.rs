@@ -1,0 +1,157 @@
+// Made by tools/erase of crates/fips204_base/src/conversion.rt. Change that, not this.
+//! Coefficients and hints as bytes, and polynomials in fields of as many bits as the range of their
+//! coefficients asks for.
+
+mod coefficients;
+mod hints;
+
+use crate::proved::fips204_base::helpers::{bit_length, is_in_range};
+use crate::proved::fips204_base::types::{R, R0};
+pub use coefficients::{coeff_from_half_byte, coeff_from_three_bytes};
+pub(crate) use hints::write_unpacked_hint;
+pub use hints::{hint_bit_pack, hint_bit_unpack};
+
+/// How many bits the fields of coefficients in `[-a, b]` have.
+pub(crate) fn field_width(a: i32, b: i32) -> u32 {
+    bit_length(a + b) as u32
+}
+
+/// Puts `field` above the `have` bits of `word`.
+fn with_field(word: u32, have: u32, field: u32) -> u32 {
+    field << have | word
+}
+
+/// The low `c` bits of `word`.
+fn low(word: u32, c: u32) -> u32 {
+    word & (1u32 << c) - 1
+}
+
+/// The field of a coefficient.
+fn field_of(x: i32, a: i32, b: i32) -> u32 {
+    if a > 0 { (b - x) as u32 } else { x as u32 }
+}
+
+/// The coefficient of a field.
+fn coefficient_of(field: u32, a: i32, b: i32) -> i32 {
+    let value = field as i32;
+    if a > 0 { b - value } else { value }
+}
+
+/// `SimpleBitPack` (Algorithm 16): writes each coefficient in as many bits as `b` has.
+///
+/// Coefficients are in `[0, b]`, `b` is from 1 to `2^20 - 1`, and `out` has exactly `32 * bit_length(b)` bytes.
+pub fn simple_bit_pack(w: &R, b: i32, out: &mut [u8]) {
+    bit_pack(w, 0, b, out);
+}
+
+/// Writes the fields of eight coefficients in `[-a, b]`, which fill as many bytes as a field has bits.
+#[inline(always)]
+fn write_packed_group(w: &[i32], a: i32, b: i32, out: &mut [u8]) {
+    let c = field_width(a, b);
+    let mut word = 0u32;
+    let mut have = 0u32;
+    let mut at = 0usize;
+    for x in w {
+        // z = z || IntegerToBits(b - w_i, bitlen(a + b)), given out in bytes as they fill
+        word = with_field(word, have, field_of(*x, a, b));
+        have += c;
+        while have >= 8 {
+            out[at] = (word & 0xff) as u8;
+            word >>= 8;
+            have -= 8;
+            at += 1;
+        }
+    }
+}
+
+/// `BitPack` (Algorithm 17): writes the fields of coefficients in `[-a, b]`, each of as many bits as `a + b` has.
+/// The field of a coefficient is its distance from `b`, and where `a` is 0 the coefficient itself.
+///
+/// `a` is from 0 and `b` from 1 to `2^20 - 1`, and `out` has exactly `32 * bit_length(a + b)` bytes.
+#[inline(always)]
+pub fn bit_pack(w: &R, a: i32, b: i32, out: &mut [u8]) {
+    let c = field_width(a, b) as usize;
+    for i in 0..32 {
+        write_packed_group(&w.0[8 * i..8 * i + 8], a, b, &mut out[c * i..c * i + c]);
+    }
+}
+
+/// `bit_pack`, compiled with constants for each range that FIPS 204 packs.
+pub(crate) fn write_packed_by_range(w: &R, a: i32, b: i32, out: &mut [u8]) {
+    match (a, b) {
+        (0, 15) => bit_pack(w, 0, 15, out),
+        (0, 43) => bit_pack(w, 0, 43, out),
+        (131071, 131072) => bit_pack(w, 131071, 131072, out),
+        (524287, 524288) => bit_pack(w, 524287, 524288, out),
+        (2, 2) => bit_pack(w, 2, 2, out),
+        (4, 4) => bit_pack(w, 4, 4, out),
+        (0, 1023) => bit_pack(w, 0, 1023, out),
+        (4095, 4096) => bit_pack(w, 4095, 4096, out),
+        _ => bit_pack(w, a, b, out),
+    }
+}
+
+/// Reads the eight coefficients whose fields stand in `v`.
+#[inline(always)]
+fn write_unpacked_group(v: &[u8], a: i32, b: i32, out: &mut [i32]) {
+    let c = field_width(a, b);
+    let mut word = 0u32;
+    let mut have = 0u32;
+    let mut at = 0usize;
+    for i in 0..8 {
+        while have < c {
+            word = with_field(word, have, v[at] as u32);
+            have += 8;
+            at += 1;
+        }
+        // w_i = b - BitsToInteger(z[i c .. (i + 1) c - 1], c)
+        out[i] = coefficient_of(low(word, c), a, b);
+        word >>= c;
+        have -= c;
+    }
+}
+
+/// `SimpleBitUnpack` (Algorithm 18): the polynomial whose coefficients are the fields of `v`, each
+/// of as many bits as `b` has. `None` where one is above `b`.
+///
+/// `b` is from 1 to `2^20 - 1`, and `v` has exactly `32 * bit_length(b)` bytes.
+pub fn simple_bit_unpack(v: &[u8], b: i32) -> Option<R> {
+    bit_unpack(v, 0, b)
+}
+
+/// `BitUnpack` (Algorithm 19): the polynomial whose fields stand in `v`, each of as many bits as `a + b` has. `None`
+/// where `a` is 0 and a field is above `b`; where `a` is above 0 a coefficient may come out below `-a`.
+///
+/// `a` is from 0 and `b` from 1 to `2^20 - 1`, and `v` has exactly `32 * bit_length(a + b)` bytes.
+#[inline(always)]
+pub fn bit_unpack(v: &[u8], a: i32, b: i32) -> Option<R> {
+    let mut w = R0;
+    write_unpacked(v, a, b, &mut w)?;
+    Some(w)
+}
+
+/// `bit_unpack`, written into the caller's place.
+#[inline(always)]
+fn write_unpacked(v: &[u8], a: i32, b: i32, w: &mut R) -> Option<()> {
+    let c = field_width(a, b) as usize;
+    for i in 0..32 {
+        write_unpacked_group(&v[c * i..c * i + c], a, b, &mut w.0[8 * i..8 * i + 8]);
+    }
+    if a == 0 && !is_in_range(w, 0, b) {
+        return None;
+    }
+    Some(())
+}
+
+/// `write_unpacked`, compiled with constants for each range that FIPS 204 unpacks.
+pub(crate) fn write_unpacked_by_range(v: &[u8], a: i32, b: i32, w: &mut R) -> Option<()> {
+    match (a, b) {
+        (131071, 131072) => write_unpacked(v, 131071, 131072, w),
+        (524287, 524288) => write_unpacked(v, 524287, 524288, w),
+        (2, 2) => write_unpacked(v, 2, 2, w),
+        (4, 4) => write_unpacked(v, 4, 4, w),
+        (0, 1023) => write_unpacked(v, 0, 1023, w),
+        (4095, 4096) => write_unpacked(v, 4095, 4096, w),
+        _ => write_unpacked(v, a, b, w),
+    }
+}

@@ -1,0 +1,202 @@
+// Made by tools/erase of crates/fips204_base/src/hashing/matrix.rt. Change that, not this.
+//! The matrix, as it is sampled from the XOF in the place of SHAKE128.
+
+use crate::proved::fips204_base::Q;
+use crate::proved::fips204_base::conversion::coeff_from_three_bytes;
+use crate::proved::fips204_base::fault::Fault;
+use crate::proved::fips204_base::hashing::sampler::{Draws, Sampler};
+use crate::proved::fips204_base::hashing::write_kept;
+use crate::proved::fips204_base::types::{T, T0};
+use crate::proved::fips204_base::xof::{Xof, XofReader};
+use crate::simd::{u8x16, u32x4};
+
+/// The numbers of the four triples at the start of 16 bytes, without the top bit of each: those that
+/// CoeffFromThreeBytes (Algorithm 14) keeps where they are below `q`.
+#[inline(always)]
+fn four_numbers(bytes: u8x16) -> [i32; 4] {
+    let apart = bytes.shuffle(
+        u8x16::splat(0),
+        [0, 1, 2, 16, 3, 4, 5, 16, 6, 7, 8, 16, 9, 10, 11, 16],
+    );
+    let numbers = u32x4::from_le_bytes(apart) % u32x4::splat(1 << 23);
+    numbers.cast::<i32>().to_array()
+}
+
+/// Writes the numbers of four triples from number `first` on, which stand at the start of 16 bytes.
+#[inline(always)]
+fn write_four_numbers(bytes: &[u8], first: usize, values: &mut [i32; 256]) {
+    let [a, b, c, d] = four_numbers(u8x16::from_slice(bytes));
+    values[first] = a;
+    values[first + 1] = b;
+    values[first + 2] = c;
+    values[first + 3] = d;
+}
+
+/// Writes the numbers of 256 triples, without the top bit of each.
+fn write_numbers(triples: &[u8], values: &mut [i32; 256]) {
+    for n in 0..63 {
+        write_four_numbers(&triples[12 * n..12 * n + 16], 4 * n, values);
+    }
+    let mut last = [0u8; 16];
+    last[..12].copy_from_slice(&triples[756..768]);
+    write_four_numbers(&last, 252, values);
+}
+
+/// Whether all are below `q`.
+fn are_below_q(values: &[i32; 256]) -> bool {
+    let mut most = 0;
+    for p in 0..256 {
+        most = values[p].max(most);
+    }
+    most < Q
+}
+
+/// Puts the coefficients that 256 triples give into `values`, and returns how many there are. Mostly each triple gives one: so
+/// their numbers are written side by side first, and only where one is too large are the others moved to the start.
+fn write_first_triples(triples: &[u8], values: &mut [i32; 256]) -> usize {
+    write_numbers(triples, values);
+    if are_below_q(values) {
+        return 256;
+    }
+    let mut count = 0;
+    for p in 0..256usize {
+        let number = values[p];
+        if number < Q {
+            values[count] = number;
+            count += 1;
+        }
+    }
+    count
+}
+
+/// The draws of a matrix entry: triples of bytes.
+struct Triples;
+
+impl Draws for Triples {
+    fn bytes(&self) -> usize {
+        3
+    }
+
+    fn first(&self) -> usize {
+        256
+    }
+
+    fn wanted(&self, count: usize) -> usize {
+        (256 - count).min(8)
+    }
+
+    fn write_first(&self, draws: &[u8], values: &mut [i32; 256]) -> usize {
+        write_first_triples(draws, values)
+    }
+
+    fn write_kept(&self, n: usize, piece: &[u8], values: &mut [i32; 256], count: usize) -> usize {
+        let mut kept = count;
+        for p in 0..n {
+            let triple = [piece[3 * p], piece[3 * p + 1], piece[3 * p + 2]];
+            kept = write_kept(coeff_from_three_bytes(triple), values, kept);
+        }
+        kept
+    }
+}
+
+/// `RejNTTPoly` (Algorithm 30): a matrix entry from the concatenated `parts`.
+///
+/// Errors: `SamplingLimit` if rejection sampling reaches its limit: if as many triples as a quarter of the
+/// output has bytes give fewer than 256 coefficients.
+pub fn rej_ntt_poly<G: Xof>(parts: &[&[u8]]) -> Result<T, Fault> {
+    // ctx = G.Absorb(rho)
+    let mut reader = G::open(parts);
+    let mut first = [0u8; 768];
+    reader.read(&mut first);
+    let mut entry = T0;
+    write_entry::<G>(&first, &mut reader, &mut entry)?;
+    Ok(entry)
+}
+
+/// Writes the matrix entry of an output whose first 256 triples are in `first`. `reader` gives the others.
+fn write_entry<G: Xof>(first: &[u8], reader: &mut G::Reader, entry: &mut T) -> Result<(), Fault> {
+    // a[j] = CoeffFromThreeBytes(s[0], s[1], s[2]), kept unless it is none
+    Triples.fill::<G>(first, reader, &mut entry.0)
+}
+
+/// The sampler of a matrix with `L` entries in a row, numbered row by row.
+struct Entries<'a, const L: usize> {
+    rho: &'a [u8; 32],
+}
+
+impl<'a, const L: usize, G: Xof> Sampler<G> for Entries<'a, L> {
+    type Value = T;
+
+    fn size(&self) -> usize {
+        768
+    }
+
+    fn open(&self, n: usize) -> G::Reader {
+        G::open(&[self.rho.as_slice(), &[(n % L) as u8], &[(n / L) as u8]])
+    }
+
+    fn write(&self, first: &[u8], reader: &mut G::Reader, value: &mut T) -> Result<(), Fault> {
+        write_entry::<G>(first, reader, value)
+    }
+}
+
+/// Writes entry `n`, which is one of the four in `ahead` or begins the next four. Where fewer are left it is made alone.
+fn write_next_entry<const K: usize, const L: usize, G: Xof>(
+    rho: &[u8; 32],
+    n: usize,
+    ahead: &mut [T; 4],
+    entry: &mut T,
+) -> Result<(), Fault> {
+    let entries = Entries::<L> { rho };
+    if n / 4 * 4 + 4 > K * L {
+        return Sampler::<G>::write_one(&entries, n, entry);
+    }
+    if n % 4 == 0 {
+        Sampler::<G>::write_four(&entries, n, ahead)?;
+    }
+    *entry = ahead[n % 4];
+    Ok(())
+}
+
+/// `ExpandA` (Algorithm 32): the matrix of transforms, with the entry at row `r` and column `s` from `rho`,
+/// byte `s` and byte `r`. `K` and `L` are those of a parameter set.
+///
+/// Errors: `SamplingLimit` if an entry reaches its limit.
+pub fn expand_a<const K: usize, const L: usize, G: Xof>(
+    rho: &[u8; 32],
+) -> Result<[[T; L]; K], Fault> {
+    let mut matrix = [[T0; L]; K];
+    write_expanded_a::<K, L, G>(rho, &mut matrix)?;
+    Ok(matrix)
+}
+
+/// `expand_a`, written into the caller's place, with values below `q` in absolute value. After an error part of it
+/// may be written. Internal: serves the crate `fips204` alone.
+pub fn write_expanded_a<const K: usize, const L: usize, G: Xof>(
+    rho: &[u8; 32],
+    matrix: &mut [[T; L]; K],
+) -> Result<(), Fault> {
+    let mut ahead = [T0; 4];
+    for r in 0..K {
+        write_next_row::<K, L, G>(rho, r, &mut ahead, &mut matrix[r])?;
+    }
+    Ok(())
+}
+
+/// Writes row `r` of the matrix (Algorithm 32, lines 2 to 5). Its entries are made four at a time, in their place where they are
+/// a row, and else so that the next row's first ones may be in `ahead` then.
+pub(crate) fn write_next_row<const K: usize, const L: usize, G: Xof>(
+    rho: &[u8; 32],
+    r: usize,
+    ahead: &mut [T; 4],
+    row: &mut [T; L],
+) -> Result<(), Fault> {
+    if L == 4 {
+        Sampler::<G>::write_four(&Entries::<L> { rho }, r * L, row)?;
+        return Ok(());
+    }
+    for s in 0..L {
+        write_next_entry::<K, L, G>(rho, r * L + s, ahead, &mut row[s])?;
+    }
+    Ok(())
+}

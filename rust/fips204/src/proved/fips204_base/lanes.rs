@@ -1,0 +1,142 @@
+// Made by tools/erase of crates/fips204_base/src/lanes.rt. Change that, not this.
+//! Eight values for the butterflies side by side in lanes, which go through each step at once.
+
+use crate::proved::fips204_base::Q;
+use crate::proved::fips204_base::helpers::count::Count;
+use crate::proved::fips204_base::helpers::residue::Residue;
+use crate::proved::fips204_base::helpers::zeta_table::zeta_mont;
+use crate::simd::{i32x4, i32x8, i64x4};
+
+/// Eight `i32` lanes. Contracts see the list of them.
+#[derive(Clone, Copy)]
+pub struct Lanes(i32x8);
+
+impl Lanes {
+    /// The lanes whose lane `i` is entry `i`.
+    pub fn from_array(entries: [i32; 8]) -> Lanes {
+        // a proof knows the range of each entry once it is read
+        let [a, b, c, d, e, f, g, h] = entries;
+        Lanes(i32x8::from_array([a, b, c, d, e, f, g, h]))
+    }
+
+    /// The array whose entry `i` is lane `i`.
+    pub fn to_array(self) -> [i32; 8] {
+        self.0.to_array()
+    }
+
+    /// The lanes with `x` in lane `r`.
+    pub(crate) fn with_lane(self, r: usize, x: i32) -> Lanes {
+        let places = i32x8::from_array([0, 1, 2, 3, 4, 5, 6, 7]);
+        let at = places.simd_eq(i32x8::splat(r as i32));
+        Lanes(at.select(i32x8::splat(x), self.0))
+    }
+
+    /// The first four lanes, and after them those of `other`.
+    pub(crate) fn beside(self, other: Lanes) -> Lanes {
+        let [a, b, c, d, _, _, _, _] = self.to_array();
+        let [e, f, g, h, _, _, _, _] = other.to_array();
+        Lanes::from_array([a, b, c, d, e, f, g, h])
+    }
+
+    /// The last four lanes, and after them the first four.
+    pub(crate) fn halves_exchanged(self) -> Lanes {
+        let [a, b, c, d, e, f, g, h] = self.to_array();
+        Lanes::from_array([e, f, g, h, a, b, c, d])
+    }
+
+    /// Each lane times a factor in Montgomery form, modulo `q` and below `q` in absolute value, as the factor is.
+    pub(crate) fn times(self, factor: i32) -> Lanes {
+        mont_products(self, factor)
+    }
+
+    /// Each lane minus that of other lanes, modulo `q` and below `q` in absolute value, as lanes of both are.
+    pub(crate) fn minus(self, other: Lanes) -> Lanes {
+        self.sub(other, &mut Count::new()).reduce()
+    }
+}
+
+/// One step of the meter is one step in all eight lanes.
+impl Residue for Lanes {
+    type Meter = Count;
+
+    #[inline(always)]
+    fn add(self, other: Lanes, meter: &mut Count) -> Lanes {
+        meter.sums += 1;
+        Lanes(self.0.strict_add(other.0))
+    }
+
+    #[inline(always)]
+    fn sub(self, other: Lanes, meter: &mut Count) -> Lanes {
+        meter.sums += 1;
+        Lanes(self.0.strict_sub(other.0))
+    }
+
+    #[inline(always)]
+    fn mul_zeta(self, m: usize, meter: &mut Count) -> Lanes {
+        meter.products += 1;
+        mont_products(self, zeta_mont(m))
+    }
+
+    #[inline(always)]
+    fn mul_neg_zeta(self, m: usize, meter: &mut Count) -> Lanes {
+        meter.products += 1;
+        mont_products(self, -zeta_mont(m))
+    }
+
+    #[inline(always)]
+    fn reduce(self) -> Lanes {
+        let near = (self.0 + i32x8::splat(1 << 22)) >> i32x8::splat(23);
+        Lanes(self.0 - near * i32x8::splat(Q))
+    }
+
+    #[inline(always)]
+    fn finish(self) -> Lanes {
+        // 8347681 * 2^32 is 16382 modulo q
+        raised(mont_products(self, 16382))
+    }
+}
+
+/// Each lane times the factor and the inverse of `2^32` modulo `q`, below `q` in absolute value.
+#[inline(always)]
+fn mont_products(x: Lanes, factor: i32) -> Lanes {
+    let low = wide_products(x.0.extract::<0, 4>(), factor);
+    let high = wide_products(x.0.extract::<4, 4>(), factor);
+    Lanes(low.shuffle(high, [1, 3, 5, 7, 9, 11, 13, 15]))
+}
+
+/// Those products of four lanes, each of them the high half of 64 bits: the odd lanes.
+///
+/// A wide product of numbers of 32 bits is one instruction. The factor and its product with the inverse of `q` come as
+/// one number of 64 bits, of which both halves are used: so the compiler still knows, where a loop keeps them, that each
+/// has 32 bits.
+#[inline(always)]
+fn wide_products(x: i32x4, factor: i32) -> i32x8 {
+    let both = i64x4::splat(factor_words(factor));
+    let word = i64x4::splat(32);
+    let wide = x.cast::<i64>();
+    // t = the low word of x factor q^-1, and x factor - t q is a multiple of 2^32
+    let low = ((wide * (both >> word)) << word) >> word;
+    let whole = wide * ((both << word) >> word) - low * i64x4::splat(8380417);
+    halves(whole)
+}
+
+/// Numbers of 64 bits as their halves, of which the high ones are the odd lanes.
+#[inline(always)]
+fn halves(x: i64x4) -> i32x8 {
+    i32x8::from_le_bytes(x.to_le_bytes())
+}
+
+/// The number of 64 bits whose low word has the bits of `factor`, and whose high word gives the lowest 32 bits of
+/// `factor` where it is multiplied by `q`; 58728449 is the inverse of `q` modulo `2^32`.
+#[inline(always)]
+fn factor_words(factor: i32) -> i64 {
+    u64::from(factor.cast_unsigned())
+        .wrapping_mul((58728449 << 32) + 1)
+        .cast_signed()
+}
+
+/// Each lane modulo `q`, from 0 to `q - 1`, for lanes below `q` in absolute value.
+#[inline(always)]
+fn raised(x: Lanes) -> Lanes {
+    Lanes(x.0 - (x.0 >> i32x8::splat(31)) * i32x8::splat(Q))
+}

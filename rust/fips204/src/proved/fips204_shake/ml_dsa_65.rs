@@ -1,0 +1,33 @@
+// Made by tools/erase of crates/fips204_shake/src/ml_dsa_65.rt. Change that, not this.
+//! ML-DSA-65 over SHAKE256 and SHAKE128.
+
+use crate::proved::fips204::ml_dsa_65;
+pub use crate::proved::fips204::ml_dsa_65::{
+    PK_LEN, PREPARED_PK_LEN, PREPARED_SK_LEN, SIG_LEN, SK_LEN,
+};
+use crate::proved::fips204::traits::{CryptoRngCore, KeyGen};
+use crate::proved::fips204_base::Fault;
+use crate::proved::fips204_shake::streams::{Shake128Stream, Shake256Stream};
+
+/// Key generation.
+pub type KG = ml_dsa_65::KG<Shake256Stream, Shake128Stream>;
+
+/// A public key.
+pub type PublicKey = ml_dsa_65::PublicKey<Shake256Stream, Shake128Stream>;
+
+/// A private key.
+pub type PrivateKey = ml_dsa_65::PrivateKey<Shake256Stream, Shake128Stream>;
+
+/// A public key with its matrix, for many verifications.
+pub type PreparedPublicKey = ml_dsa_65::PreparedPublicKey<Shake256Stream>;
+
+/// A private key with its matrix, for many signatures.
+pub type PreparedPrivateKey = ml_dsa_65::PreparedPrivateKey<Shake256Stream>;
+
+/// Makes a key pair (Algorithm 1) from 32 bytes of the generator, which is asked once. Errors as for
+/// `KeyGen::try_keygen_with_rng`.
+pub fn try_keygen_with_rng<R: CryptoRngCore>(
+    rng: &mut R,
+) -> Result<(PublicKey, PrivateKey), Fault> {
+    KG::try_keygen_with_rng(rng)
+}

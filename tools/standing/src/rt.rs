@@ -1,0 +1,166 @@
+//! For `std::rt`: the runtime that a program is given, with its words, input, output and standard error.
+
+use crate::alloc::AllocGlobal;
+use crate::env::FillError;
+use std::ffi::OsString;
+use std::fmt::Display;
+use std::fs::File;
+use std::io::{self, BufReader, Read, Write};
+use std::os::fd::AsFd;
+use std::os::unix::ffi::OsStrExt;
+use std::sync::OnceLock;
+
+/// The process.
+#[derive(Clone, Copy)]
+pub struct HostRuntime;
+
+impl AllocGlobal for HostRuntime {}
+
+/// What has words and an environment: each of them is put into a place, and its length is returned.
+pub trait Env {
+    fn arg(&self, i: usize, buf: &mut [u8]) -> Result<usize, FillError>;
+
+    fn var(&self, name: &str, buf: &mut [u8]) -> Result<usize, FillError>;
+
+    fn var_at(&self, i: usize, buf: &mut [u8]) -> Result<usize, FillError>;
+}
+
+/// What has a standard error.
+pub trait Eprint {
+    fn eprint<D: Display>(&self, value: D) -> io::Result<()>;
+
+    fn eprintln<D: Display>(&self, value: D) -> io::Result<()>;
+}
+
+fn put(bytes: &[u8], buf: &mut [u8]) -> Result<usize, FillError> {
+    let room = buf.get_mut(..bytes.len()).ok_or(FillError::TooLong)?;
+    room.copy_from_slice(bytes);
+    Ok(bytes.len())
+}
+
+impl Env for HostRuntime {
+    fn arg(&self, i: usize, buf: &mut [u8]) -> Result<usize, FillError> {
+        static WORDS: OnceLock<Vec<OsString>> = OnceLock::new();
+        let words = WORDS.get_or_init(|| std::env::args_os().collect());
+        put(words.get(i).ok_or(FillError::NotPresent)?.as_bytes(), buf)
+    }
+
+    fn var(&self, name: &str, buf: &mut [u8]) -> Result<usize, FillError> {
+        let value = std::env::var_os(name).ok_or(FillError::NotPresent)?;
+        put(value.as_bytes(), buf)
+    }
+
+    fn var_at(&self, i: usize, buf: &mut [u8]) -> Result<usize, FillError> {
+        let (name, value) = std::env::vars_os().nth(i).ok_or(FillError::NotPresent)?;
+        put(&[name.as_bytes(), b"=", value.as_bytes()].concat(), buf)
+    }
+}
+
+impl<E: Env> Env for (E, crate::alloc::Global) {
+    fn arg(&self, i: usize, buf: &mut [u8]) -> Result<usize, FillError> {
+        self.0.arg(i, buf)
+    }
+
+    fn var(&self, name: &str, buf: &mut [u8]) -> Result<usize, FillError> {
+        self.0.var(name, buf)
+    }
+
+    fn var_at(&self, i: usize, buf: &mut [u8]) -> Result<usize, FillError> {
+        self.0.var_at(i, buf)
+    }
+}
+
+impl Eprint for HostRuntime {
+    fn eprint<D: Display>(&self, value: D) -> io::Result<()> {
+        write!(io::stderr().lock(), "{value}")
+    }
+
+    fn eprintln<D: Display>(&self, value: D) -> io::Result<()> {
+        write!(io::stderr().lock(), "{value}\n")
+    }
+}
+
+/// A descriptor of the process, of which nothing is kept back: what is read is what is asked for, and what is written is
+/// written at once. Rust's own `stdin` reads ahead, and its `stdout` holds back.
+pub struct Descriptor(io::Result<File>);
+
+impl Descriptor {
+    fn of<D: AsFd>(given: D) -> Descriptor {
+        Descriptor(given.as_fd().try_clone_to_owned().map(File::from))
+    }
+
+    fn file(&mut self) -> io::Result<&mut File> {
+        self.0.as_mut().map_err(|error| error.kind().into())
+    }
+}
+
+impl Read for Descriptor {
+    fn read(&mut self, buf: &mut [u8]) -> io::Result<usize> {
+        self.file()?.read(buf)
+    }
+}
+
+impl Write for Descriptor {
+    fn write(&mut self, buf: &[u8]) -> io::Result<usize> {
+        self.file()?.write(buf)
+    }
+
+    fn flush(&mut self) -> io::Result<()> {
+        Ok(())
+    }
+}
+
+impl HostRuntime {
+    /// Standard input. It has room for the one byte that is looked at, so that what is not taken is left to others.
+    pub fn reader(&self) -> BufReader<Descriptor> {
+        BufReader::with_capacity(1, Descriptor::of(io::stdin()))
+    }
+
+    /// Standard output.
+    pub fn stdout(&self) -> Descriptor {
+        Descriptor::of(io::stdout())
+    }
+}
+
+#[cfg(test)]
+mod tests {
+    use super::*;
+
+    #[test]
+    fn words_and_variables_are_those_of_the_process() {
+        let mut room = [0; 4096];
+        let length = HostRuntime.arg(0, &mut room).unwrap();
+        let name = std::env::args_os().next().unwrap();
+        assert_eq!(room[..length], *name.as_bytes());
+        assert_eq!(HostRuntime.arg(0, &mut []), Err(FillError::TooLong));
+        assert_eq!(HostRuntime.arg(99, &mut room), Err(FillError::NotPresent));
+        let length = HostRuntime.var("CARGO_PKG_NAME", &mut room).unwrap();
+        assert_eq!(room[..length], *b"rattle_std");
+        assert_eq!(HostRuntime.var("CARGO_PKG", &mut room), Err(FillError::NotPresent));
+        let length = HostRuntime.var_at(0, &mut room).unwrap();
+        let (name, value) = std::env::vars_os().next().unwrap();
+        assert_eq!(room[..length], *[name.as_bytes(), b"=", value.as_bytes()].concat());
+    }
+
+    #[test]
+    fn a_descriptor_that_was_refused_is_an_error() {
+        let mut refused = Descriptor(Err(io::ErrorKind::PermissionDenied.into()));
+        let errors = [refused.read(&mut [0]), refused.write(&[0])];
+        assert!(errors.iter().all(|it| it.is_err()), "{errors:?}");
+    }
+
+    #[test]
+    fn nothing_is_read_ahead() -> io::Result<()> {
+        let (read, mut write) = io::pipe()?;
+        write.write_all(b"first\nsecond")?;
+        drop(write);
+        let mut reader = BufReader::with_capacity(1, Descriptor::of(&read));
+        let mut line = [0; 6];
+        reader.read_exact(&mut line)?;
+        drop(reader);
+        let mut rest = String::new();
+        (&read).read_to_string(&mut rest)?;
+        assert_eq!((line.as_slice(), rest.as_str()), (b"first\n".as_slice(), "second"));
+        Ok(())
+    }
+}
