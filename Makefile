@@ -2,7 +2,8 @@
 PREFIX = /usr/local
 
 help:
-	@echo 'make run                    build the program mldsa of the proved source, and run it: half a minute'
+	@echo 'make run                    prove and build the program mldsa, and run it: 15 minutes, then half a minute'
+	@echo 'make look                   the same before any proof: half a minute'
 	@echo 'make test                   the tests, the pages, and the proof of what is built for them: half an hour'
 	@echo 'make check                  make test, each proof and each mutation: 2 hours'
 	@echo 'make release                make the packages, in dist/: half an hour, then 5 minutes'
@@ -10,6 +11,9 @@ help:
 
 run:
 	@scripts/programs run
+
+look:
+	@scripts/first-run --unproved
 
 test:
 	@scripts/steps test
@@ -23,4 +27,4 @@ release:
 install:
 	scripts/install --prefix "$(PREFIX)"
 
-.PHONY: help run test check release install
+.PHONY: help run look test check release install
