@@ -1,6 +1,9 @@
 //! The choice of code for AVX2 when the program runs. What is unsafe of this package stands here.
 #![allow(unsafe_code)]
 
+#[cfg(target_arch = "x86_64")]
+use core::sync::atomic::{AtomicU8, Ordering};
+
 /// Declares a function that is compiled twice, the second time for processors with AVX2, and that calls the one of these that
 /// fits. What it calls in turn has to be inlined, to be compiled with it.
 macro_rules! with_avx2 {
@@ -28,15 +31,14 @@ macro_rules! with_avx2 {
 }
 pub(crate) use with_avx2;
 
+/// 0 until it was asked, then 1 for no and 2 for yes. Whoever asks at the same time finds the same.
+#[cfg(target_arch = "x86_64")]
+static KNOWN: AtomicU8 = AtomicU8::new(0);
+
 /// Whether the processor has AVX2, and the system keeps its registers.
 #[cfg(target_arch = "x86_64")]
 #[allow(dead_code)] // a build for processors with AVX2 does not ask
 pub(crate) fn is_there() -> bool {
-    use core::sync::atomic::{AtomicU8, Ordering};
-
-    /// 0 until it was asked, then 1 for no and 2 for yes. Whoever asks at the same time finds the same.
-    static KNOWN: AtomicU8 = AtomicU8::new(0);
-
     let mut known = KNOWN.load(Ordering::Relaxed);
     if known == 0 {
         known = 1 + u8::from(found());
@@ -79,9 +81,28 @@ fn found() -> bool {
 mod tests {
     extern crate std;
 
+    use super::{KNOWN, Ordering, found, is_there};
+    use crate::proved::fips204_shake::{Input, MlDsa65};
+
+    /// A pair and a signature.
+    fn made() -> ([u8; 1952], [u8; 4032], [u8; 3309]) {
+        let (mut public, mut private, mut signature) = ([0; 1952], [0; 4032], [0; 3309]);
+        MlDsa65::keygen(&[7; 32], &mut public, &mut private).unwrap();
+        let input = Input::Message(b"a message", b"");
+        MlDsa65::sign(&private, &[9; 32], &input, &mut signature).unwrap();
+        (public, private, signature)
+    }
+
+    /// AVX2 is found as std finds it; and without it, though it is there, the same is made.
     #[test]
-    fn as_std_finds_it() {
-        assert_eq!(super::is_there(), std::is_x86_feature_detected!("avx2"));
-        assert_eq!(super::is_there(), super::found());
+    fn either_way() {
+        assert_eq!(is_there(), std::is_x86_feature_detected!("avx2"));
+        assert_eq!(is_there(), found());
+        let by_any = made();
+        KNOWN.store(1, Ordering::Relaxed);
+        assert!(!is_there());
+        assert_eq!(made(), by_any);
+        KNOWN.store(0, Ordering::Relaxed);
+        assert_eq!(is_there(), found());
     }
 }

@@ -228,6 +228,22 @@ where
     }
 }
 
+#[cfg(test)]
+mod tests {
+    use crate::proved::mldsa_c::texts::mldsa_text_of;
+
+    /// The texts are those that C has.
+    #[test]
+    fn texts() {
+        for status in [2, 15, 18, 19, 20, 21, 22, 23, 24, 25, 26] {
+            let mut of_c = [0; 64];
+            assert_eq!(mldsa_text_of(status, &mut of_c), 0);
+            let text = super::text(status).as_bytes();
+            assert_eq!((&of_c[..text.len()], of_c[text.len()]), (text, 0));
+        }
+    }
+}
+
 /// PEM in the strict form of RFC 7468, as `mlsign` and OpenSSL write it.
 #[cfg(feature = "default-rng")]
 mod pem {

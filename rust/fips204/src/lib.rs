@@ -24,7 +24,6 @@ mod prepared;
 mod proved;
 #[cfg(feature = "__proved")]
 #[doc(hidden)]
-#[allow(missing_docs, missing_debug_implementations)]
 pub mod proved;
 #[cfg(feature = "__proved")]
 #[doc(hidden)]
@@ -39,6 +38,7 @@ mod signatures;
 mod simd;
 pub mod traits;
 mod wiped;
+pub mod xofs;
 
 pub use error::Error;
 pub use pieces::MessageHasher;
@@ -112,4 +112,18 @@ pub mod ml_dsa_87 {
         SIGN_PREPARED: 209_920,
         DER: 149_504,
     );
+}
+
+#[cfg(test)]
+mod tests {
+    extern crate std;
+
+    /// The package is of the same version as the library for C.
+    #[test]
+    fn version() {
+        let number = crate::proved::mldsa_c::pre_hash::mldsa_version();
+        let [_, first, second, third] = number.to_be_bytes();
+        let version = std::format!("{first}.{second}.{third}");
+        assert_eq!(version, env!("CARGO_PKG_VERSION"));
+    }
 }

@@ -93,7 +93,8 @@ macro_rules! tests_of_a_set {
                 let (public, _) = KG::keygen_from_seed(&seed());
                 let mut der = vec![0; PublicKey::DER_LEN];
                 public.write_der(&mut der).unwrap();
-                assert!(public.write_der(&mut der[1..]).is_err());
+                let short = public.write_der(&mut der[1..]).unwrap_err();
+                assert_eq!(short.as_str(), "an array has the wrong length");
                 let said = |der: &[u8]| PublicKey::from_der(der).err().map(|it| it.as_str());
                 assert_eq!(said(&der), None);
                 assert_eq!(said(&der[..der.len() - 1]), Some("its DER is cut short"));

@@ -1,4 +1,5 @@
-//! What this crate does itself: it draws random bytes, orders errors, and turns a status into an error.
+//! What this crate does itself: it draws random bytes, orders errors, and has a text of each.
+#![cfg(feature = "rand_core")]
 
 use fips204::pre_hash;
 use fips204::traits::{KeyGen, SerDes, Signer, Verifier};

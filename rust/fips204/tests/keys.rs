@@ -108,6 +108,12 @@ macro_rules! tests_of_a_set {
                 }
                 assert_eq!(private.is_pair(), Err(Error::from(WIPED)));
                 assert_eq!(private.is_whole(), Err(Error::from(WIPED)));
+                for written in [
+                    public.write_der(&mut vec![0; PublicKey::DER_LEN]),
+                    private.write_der(&mut vec![0; PrivateKey::DER_LEN]),
+                ] {
+                    assert_eq!(written, Err(Error::from(WIPED)));
+                }
                 for begun in [
                     public.message_hasher(b""),
                     private.message_hasher(b""),
