@@ -81,7 +81,8 @@ impl Eprint for HostRuntime {
 }
 
 /// A descriptor of the process, of which nothing is kept back: what is read is what is asked for, and what is written is
-/// written at once. Rust's own `stdin` reads ahead, and its `stdout` holds back.
+/// written at once. Rust's own `stdin` reads ahead, and its `stdout` holds back. (One that is closed is /dev/null here, since
+/// Rust opens that before `main`.)
 pub struct Descriptor(io::Result<File>);
 
 impl Descriptor {
