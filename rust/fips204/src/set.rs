@@ -606,9 +606,9 @@ macro_rules! parameter_set {
 #[cfg(any(feature = "ml-dsa-44", feature = "ml-dsa-65", feature = "ml-dsa-87"))]
 macro_rules! stack {
     ($($call:ident: $bytes:literal,)*) => {
-        /// How many bytes of stack the library's calls take at most, on x86-64 and on 64-bit ARM, as `mldsa.h` says for C. Give a
-        /// thread this, and what your own functions take; and 64 KiB for those of this crate, of which a program that is compiled
-        /// with `--release` needs a part.
+        /// How many bytes of stack the calls take at most, as `mldsa.h` says for C, where the crate is compiled with optimisation.
+        /// Give a thread this, 64 KiB more for the functions around them, and what your own take. Without optimisation, which is
+        /// how cargo compiles for `dev`, no call takes more than 768 KiB.
         pub mod stack {
             $(
                 #[doc = concat!("The figure that `mldsa.h` calls `_STACK_", stringify!($call), "`, in bytes.")]

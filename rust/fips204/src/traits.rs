@@ -109,6 +109,9 @@ pub trait KeyGen {
 }
 
 /// Signing (FIPS 204, Algorithms 2 and 4).
+///
+/// An implementation has the calls with a seed, or with the feature `rand_core` those with a generator instead: each is made of the
+/// other one where it is left out, so that one of them has to be there.
 pub trait Signer {
     /// A signature.
     type Signature;
