@@ -14,7 +14,8 @@
  *
  * The library's code in Rattle is proved: each call returns what FIPS 204 says or an error, reads and writes nothing but the
  * arrays that it is given, and ends. docs/SPEC.md of its repository says this exactly, and what it rests on. On x86-64 some lines
- * of C, which are tested, choose between two compilations of that code.
+ * of C, which are tested, choose between two compilations of that code. In the library that cargo builds, the same code is plain
+ * Rust, which a script makes of it.
  *
  * An array is a pointer and, right after it, its length in bytes. A wrong length is safe: the call returns
  * MLDSA_WRONG_LENGTH and writes nothing. The arrays that a call writes are those without const; they come last. They are
@@ -28,7 +29,8 @@
  *  - seed and random are secret, drawn from a good generator, and used once.
  *
  * The calls keep no state but, on x86-64, the processor's level, allocate nothing, call nothing but memcpy, memmove and memset, and
- * may run in any number of threads.
+ * may run in any number of threads. The library that cargo builds calls memcmp or bcmp too, and abort at places that the proofs
+ * show to be out of reach.
  * They leave secrets on the stack below the caller's frame, and are not claimed to run in constant time.
  *
  * A program for each group of calls is among the examples and on the group's page of the manual: message.c, digest.c, pieces.c,
