@@ -9,7 +9,7 @@ use crate::proved::fips204_shake::MlDsa;
 use crate::traits::{SerDes, Signer, Verifier};
 use crate::wiped::{Held, Wiped, held, shows_nothing, wipe};
 #[cfg(feature = "rand_core")]
-use crate::{CryptoRng, RngCore, proved::fips204_bytes::Fault, rng::drawn};
+use crate::{CryptoRng, RngCore, proved::fips204_bytes::Fault, rng::draw};
 
 /// A parameter set, by the lengths of a public key, a private key and a signature.
 #[derive(Debug)]
@@ -227,7 +227,8 @@ where
         rng: &mut (impl RngCore + CryptoRng),
         mu: &[u8; 64],
     ) -> Result<[u8; SIG], Error> {
-        let random = drawn(rng, Fault::InternalRng)?;
+        let mut random = Wiped::zeros();
+        draw(rng, &mut random, Fault::InternalRng)?;
         self.try_sign_mu_with_seed(random.array(), mu)
     }
 
@@ -522,7 +523,7 @@ macro_rules! parameter_set {
         use crate::proved::fips204_bytes::{Input, SetName};
         use crate::proved::fips204_shake::MlDsa;
         #[cfg(feature = "rand_core")]
-        use crate::{CryptoRng, RngCore, rng::drawn, proved::fips204_bytes::Fault};
+        use crate::{CryptoRng, RngCore, rng::draw, proved::fips204_bytes::Fault};
 
         /// The number of bytes of a private key.
         pub const SK_LEN: usize = $sk_len;

@@ -1,6 +1,6 @@
 //! ML-DSA over any two XOFs of yours: `H` in the place of SHAKE256, `G` in that of SHAKE128.
 //!
-//! These are the types and calls as they were proved, under their own names; they are not those of the rest of this crate, which are
+//! These are the types and calls of the proved source, under their own names; they are not those of the rest of this crate, which are
 //! over SHAKE, return texts as errors, and wipe keys. Here a call returns a [`Fault`] or a [`Refusal`], and wipes nothing.
 //!
 //! - `ml_dsa_44`, `ml_dsa_65` and `ml_dsa_87` have the keys of each set, whose calls are those of the traits [`KeyGen`], [`Signer`],
@@ -14,7 +14,7 @@
 //! use fips204::xofs::ml_dsa_44::{KG, PrivateKey};
 //! use fips204::xofs::{FrontReader, KeyGen, SerDes, Signer, Verifier, Xof};
 //!
-//! /// A toy, of which no hash function is made.
+//! /// A toy, and no hash function.
 //! struct Toy;
 //!
 //! impl Xof for Toy {
