@@ -59,8 +59,8 @@ def cargo_words():
              "--config", f'source.debian.directory="{REGISTRY}"']
     if not any(REGISTRY.glob("signature-2.*")):
         words += ["--config", f'patch.crates-io.signature.path="{TOP}/rust/signature"']
-    print(f"cargo has no registry: it takes Debian's packages in {REGISTRY}, and Cargo.lock names these; delete that file before "
-          "cargo takes crates from elsewhere", file=sys.stderr)
+    print(f"cargo has no registry: it takes Debian's packages in {REGISTRY}, and Cargo.lock names these; delete that file "
+          "before cargo takes crates from elsewhere", file=sys.stderr)
     return tuple(words)
 
 
