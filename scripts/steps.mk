@@ -6,7 +6,7 @@ python = flock out/python.lock
 
 # Without the kit, over what cargo builds: the longest first.
 TEST = tools definitions c-valgrind programs rust c-sanitized c-gcc c-clang python vectors-rust vectors-c vectors-wasm js \
-	js-page erased tokens library pages lint installs refusals
+	js-page erasing erased tokens library pages lint installs refusals
 # With the kit: `rt ci`, and what is native, over what it left.
 CHECK = proof tools-check archives secrets ledger mlsign mlsign-edges native-c native-c-v3 native-c-aarch64 native-c-musl \
 	native-c-clang native-c-sanitized native-c-valgrind native-python native-vectors-v2 native-vectors-v3 \
@@ -23,6 +23,7 @@ pages: ; $(step) -- scripts/pages
 installs: ; $(step) -- packaging/test_install.py
 tokens: ; $(step) -- tools/tokens
 erased: tools ; $(step) cargo -- tools/erase --check
+erasing: tools ; $(step) cargo -- tools/test_erase.py
 programs: tools ; $(step) cargo -- scripts/programs test
 rust: tools ; $(step) cargo -- rust/test
 library: tools ; $(step) cargo -- scripts/archive rust

@@ -124,23 +124,23 @@ class Forms(unittest.TestCase):
                 self.assertEqual([stops(text, False), stops(text, True)], [True, False])
 
 
-class Check(unittest.TestCase):
-    """`--check` in a copy of the repository in which something changed."""
+class Copy(unittest.TestCase):
+    """A copy of what the script reads and writes, in which something may be changed."""
 
     def setUp(self):
         room = tempfile.TemporaryDirectory()
         self.addCleanup(room.cleanup)
         self.top, self.environment = pathlib.Path(room.name), dict(os.environ)
-        for name in erase.LIBRARY:
+        for name in (*erase.LIBRARY, *erase.HOSTED):
             shutil.copytree(TOP / "crates" / name / "src", self.top / "crates" / name / "src")
-        for name in ("tools/erase", erase.MADE[1]):
+        for name in ("tools/erase", "crates.txt", erase.MADE[1]):
             (self.top / name).parent.mkdir(parents=True, exist_ok=True)
             shutil.copy(TOP / name, self.top / name)
         shutil.copytree(TOP / erase.MADE[0], self.top / erase.MADE[0])
 
-    def says(self):
-        """The status of `--check` and what it prints."""
-        done = subprocess.run([self.top / "tools/erase", "--check"], env=self.environment, stdout=subprocess.PIPE,
+    def says(self, word="--check"):
+        """The status of the script and what it prints."""
+        done = subprocess.run([self.top / "tools/erase", word], env=self.environment, stdout=subprocess.PIPE,
                               stderr=subprocess.STDOUT, text=True, check=False)
         return done.returncode, done.stdout
 
@@ -149,6 +149,10 @@ class Check(unittest.TestCase):
         text = (self.top / name).read_text(encoding="utf-8")
         self.assertEqual(text.count(old), 1, f"{name}: {old}")
         (self.top / name).write_text(text.replace(old, new), encoding="utf-8")
+
+
+class Check(Copy):
+    """What `--check` notices."""
 
     def differs(self, *names):
         """Nothing else than these differs."""
@@ -201,5 +205,25 @@ class Check(unittest.TestCase):
         self.differs(MADE)
 
 
+class Programs(Copy):
+    """What `--programs` writes, and when."""
+
+    def times(self):
+        """The files, and when each was written."""
+        folder = self.top / "out/erased"
+        return {str(it.relative_to(folder)): it.stat().st_mtime_ns for it in folder.rglob("*") if it.is_file()}
+
+    def test_what_changed(self):
+        """it writes the files alone that changed, and takes away those that have no source"""
+        self.assertEqual(self.says("--programs"), (0, ""))
+        before, name = self.times(), "mldsa/src/main.rs"
+        self.change("crates/mldsa/src/main.rt", "//! The program", "//! A program")
+        (self.top / "out/erased/mldsa/src/strange.rs").write_text("", encoding="utf-8")
+        self.assertEqual(self.says("--programs"), (0, ""))
+        after = self.times()
+        self.assertEqual([it for it in after if after[it] != before.get(it)], [name])
+        self.assertEqual(after.keys(), before.keys())
+
+
 if __name__ == "__main__":
-    sys.exit(testing.run(Forms, Check))
+    sys.exit(testing.run(Forms, Check, Programs))

@@ -11,7 +11,7 @@ import textwrap
 import time
 
 import measured
-from common import SETS, TOP, archives, missing as missing_tools, need
+from common import SETS, TOP, missing as missing_tools, need
 
 from comparison.build import lay_out_sources, missing_crates, source
 from comparison.costs import machine
@@ -31,13 +31,13 @@ MODULES = {
     "lib.rs": "2b315b94ef528f8744a41e6fcb2faf820edd3d6e4cc34efdb43804e86a80ca01",
 }
 PAGE = "0e87f15819ff2f84af3e88c3416c81a158209babad24a089add568b077b22b57"
-CRATES = ("hex", "rand_chacha", "rand_core", "sha2", "sha3", "zeroize", "zeroize_derive")
+CRATES = ("getrandom", "hex", "rand_chacha", "rand_core", "sha2", "sha3", "zeroize", "zeroize_derive")
 CALLS = ("keygen", "sign", "verify")
 
 
 def missing():
     """Gives the names of what has to be installed first."""
-    return missing_tools("cargo", "rustc", "rt") + missing_crates(*CRATES)
+    return missing_tools("cargo", "rustc") + missing_crates(*CRATES)
 
 
 def checked(path, text, wanted):
@@ -92,14 +92,15 @@ def lay_out(folder, room):
     shutil.copytree(f"{TOP}/bench/library", place, dirs_exist_ok=True)
     shutil.copytree(f"{TOP}/bench/rust/rand_core", f"{place}/rand_core", dirs_exist_ok=True)
     shutil.copytree(f"{TOP}/rust/fips204/src", f"{place}/fips204/src", dirs_exist_ok=True)
-    for name in ("build.rs", "README.md"):
-        shutil.copy(f"{TOP}/rust/fips204/{name}", f"{place}/fips204/{name}")
+    shutil.copy(f"{TOP}/rust/fips204/README.md", f"{place}/fips204/README.md")
     lay_out_sources(folder, f"{place}/original")
     return place
 
 
 def cargo(place, cpu, *words):
-    environment = dict(os.environ, MLDSA_C_DIR=str(archives(cpu)[0].parent), RUSTFLAGS=f"-C target-cpu={cpu}")
+    """Runs cargo: by its defaults, or for the processor that is named."""
+    environment = {**os.environ, "CARGO_TARGET_DIR": f"{place}/target"}
+    environment |= {"RUSTFLAGS": f"-C target-cpu={cpu}"} if cpu else {}
     return subprocess.run(["cargo", *words], cwd=place, env=environment, capture_output=True, text=True, check=False)
 
 
@@ -130,7 +131,7 @@ def tests(folder, room, long):
     if long:
         rows.append(("accumulated.rs, 10,000 pairs and signatures a set", ["--release", "--test", "accumulated"]))
     for name, words in rows:
-        done = cargo(place, "x86-64-v2", "test", "--offline", "-p", "fips204", *words)
+        done = cargo(place, None, "test", "--offline", "-p", "fips204", *words)
         row = results(done)
         row[1] = row[1] or int(done.returncode != 0)
         print(f"| {name} | {' | '.join(map(str, row))} |", flush=True)
@@ -211,7 +212,7 @@ def instructions(program, number, call, which, room):
 
 def costs(folder, room, runs, cpu, write):
     """Prints the table of what the three calls cost at each set: the original, our crate, and OpenSSL."""
-    counted = cpu == "x86-64-v2"
+    counted = cpu != "x86-64-v3"
     need(missing() + (missing_tools("valgrind") if counted else []))
     place = lay_out(folder, room)
     done = cargo(place, cpu, "build", "--offline", "--release", "-p", "costs")
@@ -222,7 +223,7 @@ def costs(folder, room, runs, cpu, write):
     other = f"{version} through Python, with random bytes of its own" if version else "no OpenSSL, or one before 3.5"
     how = ("`bench/against-rust FOLDER --calls`: `rust/fips204` beside the original fips204 0.5.0 over `sha3`, the "
            f"least of three medians of {runs} calls in turns" if counted else "As above")
-    lines = [f"{how}; {other}. {' '.join(machine(cpu))}", ""]
+    lines = [f"{how}; {other}. {' '.join(machine(cpu or 'by default'))}", ""]
     head = ["set", "call", "microseconds: original", "ours", "ours / original", "OpenSSL"]
     head += ["millions of instructions: original", "ours", "ours / original"] if counted else []
     lines += [f"| {' | '.join(head)} |", "|---" * len(head) + "|"]
@@ -237,4 +238,5 @@ def costs(folder, room, runs, cpu, write):
             lines.append(f"| {' | '.join(cells)} |")
             print(lines[-1], flush=True)
     if write:
-        measured.put_section(f"## Calls over SHAKE, built for {cpu}", "\n".join(lines), "## Calls over SHAKE")
+        built = f"built for {cpu}" if cpu else "by cargo's defaults"
+        measured.put_section(f"## Calls over SHAKE, {built}", "\n".join(lines), "## Calls over SHAKE")

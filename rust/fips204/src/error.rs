@@ -35,6 +35,35 @@ impl core::fmt::Display for Refusal {
 
 impl core::error::Error for Refusal {}
 
+#[cfg(test)]
+mod tests {
+    use crate::proved::fips204_bytes::{Array, Fault, Refusal};
+    use crate::proved::mldsa_c::{statuses::status_of_refusal, texts::mldsa_text_of};
+
+    /// The texts are those that C has.
+    #[test]
+    fn texts() {
+        let faults = [
+            Fault::SignCtx,
+            Fault::HashCtx,
+            Fault::OidEmpty,
+            Fault::OidNotDer,
+            Fault::DigestTooLong,
+            Fault::DigestLength,
+            Fault::TooManyAttempts,
+            Fault::KeyRange,
+            Fault::SamplingLimit,
+        ];
+        let others = [Refusal::Length(Array::Signature), Refusal::NotPrepared];
+        for refusal in faults.map(Refusal::from).into_iter().chain(others) {
+            let mut of_c = [0; 64];
+            assert_eq!(mldsa_text_of(status_of_refusal(refusal), &mut of_c), 0);
+            let text = super::text(refusal).as_bytes();
+            assert_eq!((&of_c[..text.len()], of_c[text.len()]), (text, 0));
+        }
+    }
+}
+
 /// The error of the calls that the crate fips204 does not have. Those that it has return its `&'static str`; `?` turns either into
 /// the other, and this one into a `Box<dyn Error>` and its like.
 ///

@@ -32,6 +32,7 @@ pub mod proved_for_tests;
 mod rng;
 mod set;
 #[cfg(feature = "sha2")]
+#[doc(hidden)] // for tests of the repository
 pub mod sha2_arrays;
 #[cfg(feature = "signature")]
 mod signatures;

@@ -245,7 +245,8 @@ macro_rules! prepared_keys {
                 rng: &mut (impl RngCore + CryptoRng),
                 mu: &[u8; 64],
             ) -> Result<[u8; SIG_LEN], Error> {
-                let random = drawn(rng, Fault::InternalRng)?;
+                let mut random = Wiped::zeros();
+                draw(rng, &mut random, Fault::InternalRng)?;
                 self.try_sign_mu_with_seed(random.array(), mu)
             }
 

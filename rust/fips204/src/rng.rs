@@ -74,12 +74,12 @@ pub(crate) fn fixed(seed: &[u8; 32]) -> impl RngCore + CryptoRng {
     })
 }
 
-/// 32 bytes of a generator, or the text of the fault where it fails.
-pub(crate) fn drawn(
+/// Draws 32 bytes of a generator into their place, from which they are not moved; an error is the text of the fault.
+pub(crate) fn draw(
     rng: &mut (impl RngCore + CryptoRng),
+    bytes: &mut Wiped<32>,
     fault: Fault,
-) -> Result<Wiped<32>, &'static str> {
-    let mut bytes = Wiped::zeros();
-    let filled = rng.try_fill_bytes(bytes.array_mut());
-    filled.map(|()| bytes).map_err(|_| fault.as_str())
+) -> Result<(), &'static str> {
+    rng.try_fill_bytes(bytes.array_mut())
+        .map_err(|_| fault.as_str())
 }

@@ -9,7 +9,7 @@ use crate::proved::fips204_shake::MlDsa;
 use crate::traits::{SerDes, Signer, Verifier};
 use crate::wiped::{Held, Wiped, held, shows_nothing, wipe};
 #[cfg(feature = "rand_core")]
-use crate::{CryptoRng, RngCore, proved::fips204_bytes::Fault, rng::drawn};
+use crate::{CryptoRng, RngCore, proved::fips204_bytes::Fault, rng::draw};
 
 /// A parameter set, by the lengths of a public key, a private key and a signature.
 #[derive(Debug)]
@@ -227,7 +227,8 @@ where
         rng: &mut (impl RngCore + CryptoRng),
         mu: &[u8; 64],
     ) -> Result<[u8; SIG], Error> {
-        let random = drawn(rng, Fault::InternalRng)?;
+        let mut random = Wiped::zeros();
+        draw(rng, &mut random, Fault::InternalRng)?;
         self.try_sign_mu_with_seed(random.array(), mu)
     }
 
@@ -522,7 +523,7 @@ macro_rules! parameter_set {
         use crate::proved::fips204_bytes::{Input, SetName};
         use crate::proved::fips204_shake::MlDsa;
         #[cfg(feature = "rand_core")]
-        use crate::{CryptoRng, RngCore, rng::drawn, proved::fips204_bytes::Fault};
+        use crate::{CryptoRng, RngCore, rng::draw, proved::fips204_bytes::Fault};
 
         /// The number of bytes of a private key.
         pub const SK_LEN: usize = $sk_len;
@@ -606,9 +607,9 @@ macro_rules! parameter_set {
 #[cfg(any(feature = "ml-dsa-44", feature = "ml-dsa-65", feature = "ml-dsa-87"))]
 macro_rules! stack {
     ($($call:ident: $bytes:literal,)*) => {
-        /// How many bytes of stack the library's calls take at most, on x86-64 and on 64-bit ARM, as `mldsa.h` says for C. Give a
-        /// thread this, and what your own functions take; and 64 KiB for those of this crate, of which a program that is compiled
-        /// with `--release` needs a part.
+        /// How many bytes of stack the calls take at most, as `mldsa.h` says for C, where the crate is compiled with optimisation.
+        /// Give a thread this, 64 KiB more for the functions around them, and what your own take. Without optimisation, which is
+        /// how cargo compiles for `dev`, no call takes more than 768 KiB.
         pub mod stack {
             $(
                 #[doc = concat!("The figure that `mldsa.h` calls `_STACK_", stringify!($call), "`, in bytes.")]

@@ -11,7 +11,8 @@ use crate::{
     CryptoRng, RngCore,
     proved::fips204::ml_dsa::check_input,
     proved::fips204_bytes::{Fault, Input},
-    rng::{drawn, fixed},
+    rng::{draw, fixed},
+    wiped::Wiped,
 };
 
 /// Declares a method that has a body if generators are known, so with the feature `rand_core` alone.
@@ -82,7 +83,8 @@ pub trait KeyGen {
     fn try_keygen_with_rng(
         rng: &mut (impl RngCore + CryptoRng),
     ) -> Result<(Self::PublicKey, Self::PrivateKey), &'static str> {
-        let xi = drawn(rng, Fault::KeyGenRng)?;
+        let mut xi = Wiped::zeros();
+        draw(rng, &mut xi, Fault::KeyGenRng)?;
         Ok(Self::keygen_from_seed(xi.array()))
     }
 
@@ -109,6 +111,9 @@ pub trait KeyGen {
 }
 
 /// Signing (FIPS 204, Algorithms 2 and 4).
+///
+/// An implementation has the calls with a seed, or with the feature `rand_core` those with a generator instead: each is made of the
+/// other one where it is left out, so that one of them has to be there.
 pub trait Signer {
     /// A signature.
     type Signature;
@@ -164,7 +169,8 @@ pub trait Signer {
         ctx: &[u8],
     ) -> Result<Self::Signature, &'static str> {
         check_input(&Input::Message(message, ctx)).map_err(|fault| fault.as_str())?;
-        let random = drawn(rng, Fault::SignRng)?;
+        let mut random = Wiped::zeros();
+        draw(rng, &mut random, Fault::SignRng)?;
         self.try_sign_with_seed(random.array(), message, ctx)
     }
 
@@ -259,7 +265,8 @@ pub trait Signer {
         hash_oid: &[u8],
     ) -> Result<Self::Signature, &'static str> {
         check_input(&Input::Digest(hash, ctx, hash_oid)).map_err(|fault| fault.as_str())?;
-        let random = drawn(rng, Fault::HashRng)?;
+        let mut random = Wiped::zeros();
+        draw(rng, &mut random, Fault::HashRng)?;
         self.try_hash_sign_with_seed(random.array(), hash, ctx, hash_oid)
     }
 

@@ -1,6 +1,6 @@
 //! ML-DSA over any two XOFs of yours: `H` in the place of SHAKE256, `G` in that of SHAKE128.
 //!
-//! These are the types and calls as they were proved, under their own names; they are not those of the rest of this crate, which are
+//! These are the types and calls of the proved source, under their own names; they are not those of the rest of this crate, which are
 //! over SHAKE, return texts as errors, and wipe keys. Here a call returns a [`Fault`] or a [`Refusal`], and wipes nothing.
 //!
 //! - `ml_dsa_44`, `ml_dsa_65` and `ml_dsa_87` have the keys of each set, whose calls are those of the traits [`KeyGen`], [`Signer`],
@@ -14,7 +14,7 @@
 //! use fips204::xofs::ml_dsa_44::{KG, PrivateKey};
 //! use fips204::xofs::{FrontReader, KeyGen, SerDes, Signer, Verifier, Xof};
 //!
-//! /// A toy, of which no hash function is made.
+//! /// A toy, and no hash function.
 //! struct Toy;
 //!
 //! impl Xof for Toy {
@@ -56,6 +56,8 @@ pub use crate::proved::fips204_bytes::{
 };
 pub use crate::proved::fips204_shake::streams::{Shake128Stream, Shake256Stream};
 
+/// An XOF of yours: what the keys and the calls take in the places of SHAKE256 and SHAKE128.
+///
 /// # What an implementation owes
 ///
 /// The compiler checks none of this, and what is proved of the keys stands on it. An implementation that fails it makes no memory
@@ -66,8 +68,12 @@ pub use crate::proved::fips204_shake::streams::{Shake128Stream, Shake256Stream};
 /// - The reader that `open` returns has read none of them.
 ///
 /// How hard it is to forge a signature is a matter of the XOFs; nothing is said of that here.
+///
+/// # In the proved source
 pub use crate::proved::fips204_base::xof::Xof;
 
+/// A reader of the output of an XOF of yours.
+///
 /// # What an implementation owes
 ///
 /// - `read` fills its slice with the next bytes of the output, in their order, and has then read these. How the output is cut into
@@ -77,6 +83,8 @@ pub use crate::proved::fips204_base::xof::Xof;
 ///
 /// `read` may count on a slice that is no longer than what is `left`, and `read_four` on slices of one length, of which the fourth
 /// may also be empty: so the library calls them, and so do you.
+///
+/// # In the proved source
 pub use crate::proved::fips204_base::xof::XofReader;
 
 /// ML-DSA-44.

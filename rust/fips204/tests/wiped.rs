@@ -1,4 +1,4 @@
-//! What the calls on private keys in PEM leave in memory that they give back: nothing of the key.
+//! What keys, and the calls on private keys in PEM, leave in memory that they give back: nothing of the key.
 
 #![cfg(all(feature = "ml-dsa-65", feature = "default-rng"))]
 
@@ -69,6 +69,32 @@ fn what_is_left_is_found() {
         assert_eq!(grown.0, 1);
     }
     assert_eq!(left(secrets, || drop(black_box(vec![7; 100]))).0, 0);
+}
+
+/// A key that is dropped is overwritten before its memory is given back: where it has a place of its own, and where it is a part of
+/// something else. A copy that nobody overwrites is found.
+#[test]
+fn dropped_keys_leave_nothing() {
+    let (public, private) = KG::keygen_from_seed(&[7; 32]);
+    let (checks, signs) = (public.prepare(), private.prepare());
+    let of_keys = [part(public.as_bytes(), 100), part(private.as_bytes(), 36)];
+    assert_eq!(
+        left(of_keys, || drop(black_box(Box::new(public.to_bytes())))).0,
+        1
+    );
+    assert_eq!(
+        left(of_keys, || drop(black_box(private.as_bytes().to_vec()))).0,
+        1
+    );
+
+    assert_eq!(
+        left(of_keys, || drop(black_box(Box::new(public.clone())))).0,
+        0
+    );
+    assert_eq!(left(of_keys, || drop(black_box(private.clone()))).0, 0);
+    assert_eq!(left(of_keys, || drop(black_box(checks.clone()))).0, 0);
+    assert_eq!(left(of_keys, || drop(black_box(signs.clone()))).0, 0);
+    assert_eq!(left(of_keys, || drop(black_box(signs.key()))).0, 0);
 }
 
 /// Neither bytes of the seed or of the part K of the key, nor characters of its text.

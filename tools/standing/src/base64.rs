@@ -37,7 +37,9 @@ impl Standard {
     pub fn decode(&self, alloc: Global, text: &[u8]) -> Result<Vec<u8>, DecodeAllocError> {
         let mut room = Vec::filled(alloc, 0, text.len().div_ceil(4).saturating_mul(3))?;
         match base64::decode_config_slice(text, base64::STANDARD, &mut room) {
-            Ok(length) if text.len() % 4 == 0 => Ok(Vec::from_slice(alloc, &room[..length])?),
+            Ok(length) if text.len().is_multiple_of(4) => {
+                Ok(Vec::from_slice(alloc, &room[..length])?)
+            }
             _ => Err(DecodeAllocError::DecodeError(())),
         }
     }
@@ -71,7 +73,8 @@ mod tests {
     #[test]
     fn no_other_form_is_taken() {
         for text in [
-            "Zg", "Zg=", "Zm8", "Zh==", "Zm9=", "Zg==Zg==", "Zm9v\n", "Z", "=", "====", "Z===", "Zm=v", "Zm9v====", "Zm9-",
+            "Zg", "Zg=", "Zm8", "Zh==", "Zm9=", "Zg==Zg==", "Zm9v\n", "Z", "=", "====", "Z===",
+            "Zm=v", "Zm9v====", "Zm9-",
         ] {
             let decoded = Standard.decode(Global, text.as_bytes());
             assert_eq!(decoded, Err(DecodeAllocError::DecodeError(())), "{text}");

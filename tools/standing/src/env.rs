@@ -20,7 +20,8 @@ pub fn args<R: Env + AllocGlobal>(rt: &R) -> io::Result<vec::IntoIter<String>> {
     loop {
         match rt.arg(all.len(), &mut room) {
             Ok(length) => {
-                let text = str::from_utf8(&room[..length]).map_err(|_| io::ErrorKind::InvalidData)?;
+                let text =
+                    str::from_utf8(&room[..length]).map_err(|_| io::ErrorKind::InvalidData)?;
                 all.push(String::from_str(rt.alloc(), text)?)?;
             }
             Err(FillError::TooLong) => {

@@ -59,7 +59,10 @@ mod tests {
     #[test]
     fn encodes_and_decodes() {
         assert_eq!(encode(Global, [0, 0x9a, 0xff]).unwrap().as_str(), "009aff");
-        assert_eq!(decode(Global, "009AfF").unwrap().as_slice(), [0, 0x9a, 0xff]);
+        assert_eq!(
+            decode(Global, "009AfF").unwrap().as_slice(),
+            [0, 0x9a, 0xff]
+        );
         assert_eq!(decode(Global, "").unwrap().as_slice(), []);
     }
 

@@ -7,7 +7,9 @@ pub struct BufReader<R>(std::io::BufReader<R>);
 
 impl<R: Read> BufReader<R> {
     pub fn with_capacity(_: Global, capacity: usize, reader: R) -> Result<BufReader<R>> {
-        Ok(BufReader(std::io::BufReader::with_capacity(capacity, reader)))
+        Ok(BufReader(std::io::BufReader::with_capacity(
+            capacity, reader,
+        )))
     }
 
     pub fn get_ref(&self) -> &R {

@@ -76,12 +76,13 @@ impl Eprint for HostRuntime {
     }
 
     fn eprintln<D: Display>(&self, value: D) -> io::Result<()> {
-        write!(io::stderr().lock(), "{value}\n")
+        writeln!(io::stderr().lock(), "{value}")
     }
 }
 
 /// A descriptor of the process, of which nothing is kept back: what is read is what is asked for, and what is written is
-/// written at once. Rust's own `stdin` reads ahead, and its `stdout` holds back.
+/// written at once. Rust's own `stdin` reads ahead, and its `stdout` holds back. (One that is closed is /dev/null here, since
+/// Rust opens that before `main`.)
 pub struct Descriptor(io::Result<File>);
 
 impl Descriptor {
@@ -110,10 +111,15 @@ impl Write for Descriptor {
     }
 }
 
+/// A reader with room for the one byte that is looked at, so that what is not taken is left to others.
+fn reader_of<D: AsFd>(given: D) -> BufReader<Descriptor> {
+    BufReader::with_capacity(1, Descriptor::of(given))
+}
+
 impl HostRuntime {
-    /// Standard input. It has room for the one byte that is looked at, so that what is not taken is left to others.
+    /// Standard input.
     pub fn reader(&self) -> BufReader<Descriptor> {
-        BufReader::with_capacity(1, Descriptor::of(io::stdin()))
+        reader_of(io::stdin())
     }
 
     /// Standard output.
@@ -125,6 +131,7 @@ impl HostRuntime {
 #[cfg(test)]
 mod tests {
     use super::*;
+    use std::io::BufRead;
 
     #[test]
     fn words_and_variables_are_those_of_the_process() {
@@ -136,10 +143,16 @@ mod tests {
         assert_eq!(HostRuntime.arg(99, &mut room), Err(FillError::NotPresent));
         let length = HostRuntime.var("CARGO_PKG_NAME", &mut room).unwrap();
         assert_eq!(room[..length], *b"rattle_std");
-        assert_eq!(HostRuntime.var("CARGO_PKG", &mut room), Err(FillError::NotPresent));
+        assert_eq!(
+            HostRuntime.var("CARGO_PKG", &mut room),
+            Err(FillError::NotPresent)
+        );
         let length = HostRuntime.var_at(0, &mut room).unwrap();
         let (name, value) = std::env::vars_os().next().unwrap();
-        assert_eq!(room[..length], *[name.as_bytes(), b"=", value.as_bytes()].concat());
+        assert_eq!(
+            room[..length],
+            *[name.as_bytes(), b"=", value.as_bytes()].concat()
+        );
     }
 
     #[test]
@@ -154,13 +167,11 @@ mod tests {
         let (read, mut write) = io::pipe()?;
         write.write_all(b"first\nsecond")?;
         drop(write);
-        let mut reader = BufReader::with_capacity(1, Descriptor::of(&read));
         let mut line = [0; 6];
-        reader.read_exact(&mut line)?;
-        drop(reader);
-        let mut rest = String::new();
-        (&read).read_to_string(&mut rest)?;
-        assert_eq!((line.as_slice(), rest.as_str()), (b"first\n".as_slice(), "second"));
+        reader_of(&read).read_exact(&mut line)?;
+        assert_eq!(line, *b"first\n");
+        assert_eq!(reader_of(&read).fill_buf()?, b"s");
+        assert_eq!(io::read_to_string(&read)?, "econd");
         Ok(())
     }
 }

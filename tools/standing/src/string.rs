@@ -22,7 +22,11 @@ impl String {
         let mut made = String::new(alloc);
         for chunk in bytes.utf8_chunks() {
             made.push_str(chunk.valid())?;
-            made.push_str(if chunk.invalid().is_empty() { "" } else { "\u{fffd}" })?;
+            made.push_str(if chunk.invalid().is_empty() {
+                ""
+            } else {
+                "\u{fffd}"
+            })?;
         }
         Ok(made)
     }

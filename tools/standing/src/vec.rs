@@ -122,7 +122,10 @@ mod tests {
         made.as_mut_slice()[0] = 9;
         assert_eq!(made.as_slice(), [9, 2, 3, 4, 5]);
         assert_eq!(try_vec![Global; 7; 3]?.as_slice(), [7; 3]);
-        assert_eq!((0..3).collect_in(Global)?, Vec::from_slice(Global, &[0, 1, 2])?);
+        assert_eq!(
+            (0..3).collect_in(Global)?,
+            Vec::from_slice(Global, &[0, 1, 2])?
+        );
         Ok(())
     }
 

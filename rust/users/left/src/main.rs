@@ -1,6 +1,6 @@
 //! Makes, moves and drops private keys, and prints whether a copy of a part of them is then on the stack: first of a key in an array,
-//! which has to be found, then of keys of this crate. `rust/test` runs it over a library that does nothing, whose own stack counts
-//! for none.
+//! which has to be found, then of keys of this crate. What the calls that make a key leave below the function that has it counts for
+//! none: the library wipes no stack of its own.
 
 use fips204::ml_dsa_65::{KG, PrivateKey, SK_LEN};
 use fips204::traits::{KeyGen, SerDes};
@@ -26,21 +26,24 @@ enum Way {
 
 #[inline(never)]
 fn had(bytes: &[u8], way: Way) {
-    match way {
+    let key = match way {
         Way::Array => {
             let array: [u8; SK_LEN] = bytes.try_into().unwrap();
             drop(black_box(moved(array).to_vec()));
+            return;
         }
-        Way::Slice => drop(moved(moved(PrivateKey::try_from(bytes).unwrap()))),
+        Way::Slice => PrivateKey::try_from(bytes).unwrap(),
         Way::Bytes => {
             let mut array = [0; SK_LEN];
             array.copy_from_slice(bytes);
             let key = PrivateKey::try_from_bytes(array).unwrap();
             black_box(&mut array).fill(0);
-            drop(moved(moved(key)));
+            key
         }
-        Way::Seed => drop(moved(moved(KG::keygen_from_seed(&[7; 32]).1))),
-    }
+        Way::Seed => KG::keygen_from_seed(&[7; 32]).1,
+    };
+    cleared();
+    drop(moved(moved(key)));
 }
 
 #[inline(never)]

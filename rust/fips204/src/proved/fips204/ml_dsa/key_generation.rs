@@ -70,7 +70,7 @@ where
     ///
     /// Errors: `Fault::SamplingLimit` if rejection sampling reaches its limit; nothing is written then.
     #[inline(never)]
-    pub fn write_pair(
+    pub(crate) fn write_pair(
         xi: &[u8; 32],
         public_key: &mut [u8],
         private_key: &mut [u8],
