@@ -226,3 +226,58 @@ fn sent_and_shared() {
         is_shared::<(PreparedPublicKey, PreparedPrivateKey)>();
     }
 }
+
+/// A signer of one's own has the calls with a seed, and those with a generator of them.
+#[cfg(feature = "ml-dsa-44")]
+#[test]
+fn signer_by_seeds() {
+    use fips204::ml_dsa_44::{KG, PrivateKey, PublicKey, SIG_LEN};
+    use fips204::traits::{KeyGen, Signer};
+
+    struct Own(PrivateKey);
+
+    impl Signer for Own {
+        type Signature = [u8; SIG_LEN];
+        type PublicKey = PublicKey;
+
+        fn try_sign_with_seed(
+            &self,
+            seed: &[u8; 32],
+            message: &[u8],
+            ctx: &[u8],
+        ) -> Result<[u8; SIG_LEN], &'static str> {
+            self.0.try_sign_with_seed(seed, message, ctx)
+        }
+
+        fn try_hash_sign_with_seed(
+            &self,
+            _seed: &[u8; 32],
+            _hash: &[u8],
+            _ctx: &[u8],
+            _hash_oid: &[u8],
+        ) -> Result<[u8; SIG_LEN], &'static str> {
+            Err("no digests")
+        }
+
+        fn get_public_key(&self) -> PublicKey {
+            self.0.get_public_key()
+        }
+    }
+
+    let own = Own(KG::keygen_from_seed(&[7; 32]).1);
+    let signature = own.try_sign_with_seed(&[9; 32], b"m", b"").unwrap();
+    assert_eq!(own.0.try_sign_with_seed(&[9; 32], b"m", b""), Ok(signature));
+    #[cfg(feature = "rand_core")]
+    {
+        let mut rng = fips204::FillRng(|out: &mut [u8]| {
+            out.fill(9);
+            out.len() == 32
+        });
+        assert_eq!(own.try_sign_with_rng(&mut rng, b"m", b""), Ok(signature));
+        let refused = own.try_sign_with_rng(&mut rng, b"m", &[0; 256]);
+        assert_eq!(refused, Err("ML-DSA.Sign: ctx too long"));
+        let oid = &fips204::pre_hash::SHA2_256;
+        let refused = own.try_hash_sign_with_rng(&mut rng, &[5; 32], b"", oid);
+        assert_eq!(refused, Err("no digests"));
+    }
+}
