@@ -60,8 +60,8 @@ def cargo_words(workspace=TOP):
              "--config", f'source.debian.directory="{REGISTRY}"']
     if workspace == TOP and not any(REGISTRY.glob("signature-2.*")):
         words += ["--config", f'patch.crates-io.signature.path="{TOP}/rust/signature"']
-    print(f"cargo has no registry: it takes Debian's packages in {REGISTRY}, and Cargo.lock names these; delete that file "
-          "before cargo takes crates from elsewhere", file=sys.stderr)
+    print(f"cargo has no registry: it takes Debian's packages in {REGISTRY}, and Cargo.lock names these; delete that "
+          "file before cargo takes crates from elsewhere", file=sys.stderr)
     return tuple(words)
 
 
