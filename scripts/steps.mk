@@ -10,7 +10,7 @@ TEST = tools definitions c-valgrind programs rust c-sanitized c-gcc c-clang pyth
 # With the kit: `rt ci`, and what is native, over what it left.
 CHECK = proof tools-check archives secrets ledger mlsign mlsign-edges native-c native-c-v3 native-c-aarch64 native-c-musl \
 	native-c-clang native-c-sanitized native-c-valgrind native-python native-vectors-v2 native-vectors-v3 \
-	native-vectors-aarch64 native-vectors-mlsign rust-aarch64 module examples packages
+	native-vectors-aarch64 native-vectors-mlsign rust-aarch64 secrets-rust module examples packages
 .PHONY: $(TEST) $(CHECK) list-test list-check
 
 list-test: ; @echo $(TEST)
@@ -60,6 +60,7 @@ native-vectors-aarch64: archives ; $(step) aarch64-linux-gnu-gcc qemu-aarch64 --
 native-vectors-mlsign: proof ; $(step) -- vectors/run mlsign
 rust-aarch64: tools-check ; $(step) cargo -- rust/test --processor aarch64
 secrets: archives ; $(step) gcc valgrind -- bench/secrets/run
+secrets-rust: library ; $(step) gcc valgrind -- bench/secrets/run --rust
 ledger: archives ; $(step) gcc readelf -- $(python) examples/ledger/test
 mlsign: proof tools-check ; $(step) cc -- scripts/mlsign-program
 mlsign-edges: proof tools-check ; $(step) cc -- scripts/mlsign-edges
