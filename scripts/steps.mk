@@ -4,9 +4,9 @@
 step = @nice -n 5 scripts/gate --step $@ '$^'
 python = flock out/python.lock
 
-# Without the kit, over what cargo builds: the longest first.
-TEST = tools definitions c-valgrind programs rust c-sanitized c-gcc c-clang python vectors-rust vectors-c vectors-wasm js \
-	js-page erasing erased tokens library pages lint installs refusals
+# Without the kit, over what cargo builds: what others wait for, and then the longest first.
+TEST = tools library rust definitions programs c-valgrind c-gcc c-clang c-sanitized erasing js vectors-wasm lint python \
+	vectors-rust vectors-c refusals pages js-page erased tokens installs
 # With the kit: `rt ci`, and what is native, over what it left.
 CHECK = proof tools-check archives secrets ledger mlsign mlsign-edges native-c native-c-v3 native-c-aarch64 native-c-musl \
 	native-c-clang native-c-sanitized native-c-valgrind native-python native-vectors-v2 native-vectors-v3 \
