@@ -11,7 +11,12 @@ fn main() {
         major => format!("libmldsa.so.{major}"),
     };
     if var("CARGO_CFG_TARGET_OS").unwrap() == "linux" {
-        for word in ["-nostartfiles", "-Wl,-s", "-Wl,-z,defs", &format!("-Wl,-soname,{name}")] {
+        for word in [
+            "-nostartfiles",
+            "-Wl,-s",
+            "-Wl,-z,defs",
+            &format!("-Wl,-soname,{name}"),
+        ] {
             println!("cargo::rustc-cdylib-link-arg={word}");
         }
     }
