@@ -215,7 +215,7 @@ class BesideMlsign(unittest.TestCase):
 
     def test_changed_files(self):
         if not os.access(MLSIGN, os.X_OK):
-            self.skipTest(f"there is no program {MLSIGN}: `rt run` in crates/mlsign makes it")
+            self.skipTest(f"there is no program {MLSIGN}: `rt ci` makes it")
         draw, seen = random.Random(1), set()
         with tempfile.TemporaryDirectory() as room:
             for number in NUMBERS:
