@@ -243,8 +243,8 @@ def documents(tree, facts, provenance, folder="share/doc/mldsa"):
     tree.put(f"{folder}/PROVENANCE", provenance)
 
 
-def crate(facts, libraries, provenance):
-    """The Rust crate with the library of each processor in it: its name with its version, and what it holds."""
+def crate(facts, provenance):
+    """The Rust crate: its name with its version, and what it holds."""
     manifest = text("rust/fips204/Cargo.toml")
     package = manifest.partition("[package]")[2]
     name, version = (re.search(rf'^{field} = "(.*)"$', package, re.M)[1] for field in ("name", "version"))
@@ -252,8 +252,6 @@ def crate(facts, libraries, provenance):
     for path in command("git", "ls-files", "-z", "rust/fips204", cwd=TOP).split("\0"):
         if path:
             tree.take(path.removeprefix("rust/fips204/"), TOP / path)
-    for system, library in libraries.items():
-        tree.take(f"lib/{system}/libmldsa_c.a", library)
     tree.take("LICENSE", TOP / "LICENSE")
     # Who publishes it, if that is said.
     links = [f'{field} = "{said}"\n' for field, said in facts.links().items()]

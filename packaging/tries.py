@@ -16,6 +16,7 @@ import unittest
 
 import testing
 from common import TOP, command, missing, recorded_rows
+from registry import cargo_words
 
 HERE = TOP / "packaging/tries"
 ARM_ROOT = "/usr/aarch64-linux-gnu"
@@ -116,13 +117,11 @@ class Room:
         if not own.is_dir():
             own.mkdir()
             if self.short or not self.fetched(found):
-                # The stand-ins that the tests of the repository use: there is no network in CI.
-                names = [name for name in ("rand_core", "signature", "zeroize") if (TOP / f"rust/{name}").is_dir()]
-                for name in names:
-                    shutil.copytree(TOP / f"rust/{name}", own / name)
-                places = "".join(f'{name} = {{ path = "{own}/{name}" }}\n' for name in names)
-                (own / "config.toml").write_text(f"[patch.crates-io]\n{places}", encoding="utf-8")
-                print(f"    cargo takes stand-ins for {', '.join(names)} of the registry")
+                # There is no network in CI: Debian's packages have the place of the registry.
+                shutil.copytree(TOP / "rust/signature", own / "signature")
+                lines = "".join(f"{word}\n" for word in cargo_words() if "=" in word)
+                (own / "config.toml").write_text(lines.replace(f"{TOP}/rust", str(own)), encoding="utf-8")
+                print("    cargo takes Debian's packages, and a stand-in for signature")
         return {**found, "CARGO_NET_OFFLINE": "true"}
 
     def fetched(self, toolchain):
