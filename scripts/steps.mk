@@ -5,12 +5,12 @@ step = @nice -n 5 scripts/gate --step $@ '$^'
 python = flock out/python.lock
 
 # Without the kit, over what cargo builds: what others wait for, and then the longest first.
-TEST = tools library rust definitions programs c-valgrind c-gcc c-clang c-sanitized erasing js vectors-wasm lint python \
+TEST = tools library rust definitions programs c-gcc c-clang c-sanitized erasing js vectors-wasm lint python \
 	vectors-rust vectors-c refusals pages js-page erased tokens installs
 # With the kit: `rt ci`, and what is native, over what it left.
 CHECK = proof tools-check archives secrets ledger mlsign mlsign-edges native-c native-c-v3 native-c-aarch64 native-c-musl \
 	native-c-clang native-c-sanitized native-c-valgrind native-python native-vectors-v2 native-vectors-v3 \
-	native-vectors-aarch64 native-vectors-mlsign rust-aarch64 secrets-rust module examples packages
+	native-vectors-aarch64 native-vectors-mlsign rust-aarch64 c-valgrind secrets-rust module examples packages
 .PHONY: $(TEST) $(CHECK) list-test list-check
 
 list-test: ; @echo $(TEST)
