@@ -5,8 +5,8 @@ step = @nice -n 5 scripts/gate --step $@ '$^'
 python = flock out/python.lock
 
 # Without the kit, over what cargo builds: what others wait for, and then the longest first.
-TEST = tools library rust definitions programs c-gcc c-clang c-sanitized erasing js vectors-wasm lint python \
-	vectors-rust vectors-c refusals pages js-page erased tokens installs
+TEST = tools library definitions rust rust-others programs lint c-gcc c-clang c-sanitized js erasing python \
+	vectors-wasm vectors-rust vectors-c refusals pages js-page erased tokens installs
 # With the kit: `rt ci`, and what is native, over what it left.
 CHECK = proof tools-check archives secrets ledger mlsign mlsign-edges native-c native-c-v3 native-c-aarch64 native-c-musl \
 	native-c-clang native-c-sanitized native-c-valgrind native-python native-vectors-v2 native-vectors-v3 \
@@ -25,7 +25,8 @@ tokens: ; $(step) -- tools/tokens
 erased: tools ; $(step) cargo -- tools/erase --check
 erasing: tools ; $(step) cargo -- tools/test_erase.py
 programs: tools ; $(step) cargo -- scripts/programs test
-rust: tools ; $(step) cargo -- rust/test
+rust: tools ; $(step) cargo -- rust/test --own
+rust-others: tools ; $(step) cargo -- rust/test --others
 library: tools ; $(step) cargo -- scripts/archive rust
 c-gcc: library ; $(step) gcc g++ nm -- c/test --processor rust
 c-clang: library ; $(step) clang clang++ nm -- env CC=clang CXX=clang++ c/test --processor rust
