@@ -3,7 +3,7 @@ PREFIX = /usr/local
 
 help:
 	@echo 'make run                    build the program mldsa of the proved source, and run it: half a minute'
-	@echo 'make test                   every test that needs no proof: 6 minutes'
+	@echo 'make test                   every test that needs no proof: 7 minutes'
 	@echo 'make library                the library for C, by cargo, in out/archive/rust: a quarter of a minute'
 	@echo 'make check                  make test, and with the Rattle kit each proof and mutation, and the tests of what it builds: 2 hours'
 	@echo 'make release                make the packages, with the kit, in dist/: 2 hours, then 5 minutes'
