@@ -1,117 +1,216 @@
 #!/usr/bin/env python3
-"""Tests of scripts/install, over a small folder in the place of an unpacked archive."""
+"""Tests of `make install` and `make uninstall` over the library that cargo builds, and of each way to what is installed:
+pkg-config, CMake, the linker, the manual and the shell. What programs in C print is compared with recorded values."""
+import hashlib
 import os
 import pathlib
-import shutil
+import re
 import subprocess
+import sys
 import tempfile
 import unittest
 
-INSTALL = pathlib.Path(__file__).resolve().parent.parent / "scripts/install"
-FILES = {"include/mldsa.h": 0o644, "lib/libmldsa.a": 0o644, "bin/mlsign": 0o755, "share/man/man1/mlsign.1": 0o644}
+sys.dont_write_bytecode = True
+sys.path.insert(0, str(pathlib.Path(__file__).resolve().parent.parent / "scripts"))
+
+import registry
+import testing
+from common import TOP, emulator, missing, printed, recorded_rows
+
+SHARED = "lib/libmldsa.so.0.2"
+EXAMPLES = {f"share/doc/mldsa/examples/{it.name}" for it in (TOP / "c/examples").glob("*.c")}
+LIBRARY = {"include/mldsa.h", "lib/libmldsa.a", "lib/libmldsa.so", SHARED, "lib/pkgconfig/mldsa.pc",
+           "lib/cmake/mldsa/mldsa-config.cmake", "lib/cmake/mldsa/mldsa-config-version.cmake",
+           "share/doc/mldsa/LICENSE", "share/doc/mldsa/sign_file.c", *EXAMPLES}
+PROGRAM = {"bin/mlsign", "share/bash-completion/completions/mlsign"}
+FOUND = """cmake_minimum_required(VERSION 3.13)
+project(answers C)
+find_package(mldsa {version} REQUIRED)
+foreach(kind mldsa shared static)
+  add_executable(${{kind}} {top}/c/tests/answers.c)
+  target_link_libraries(${{kind}} mldsa::${{kind}})
+endforeach()
+"""
+IN_TREE = """cmake_minimum_required(VERSION 3.13)
+project(answers C)
+add_subdirectory({top}/c mldsa)
+add_executable(answers {top}/c/tests/answers.c)
+target_link_libraries(answers mldsa::mldsa)
+"""
+MLSIGN = """#!/bin/sh
+[ "$*" = "sign --help" ] && echo "  -k, --private <FILE>  the key" && echo "      --deterministic  without random bytes"
+"""
+ARM = "aarch64-unknown-linux-gnu"
+# Recorded values of ML-DSA-65, with a context and a message.
+ROW = next(row for row in recorded_rows() if row[0] == "65" and row[3] and row[4] and len(row) == 8)
+
+
+def wants(*tools):
+    """Of a test that is not run where a tool is missing."""
+    return unittest.skipIf(missing(*tools), f"there is no {', '.join(missing(*tools))}")
+
+
+def rust_for_arm():
+    """The first folder of PATH with a cargo and a rustc that has a library for 64-bit ARM; none where there is none."""
+    for folder in os.environ["PATH"].split(os.pathsep):
+        place = printed(f"{folder}/rustc", "--print", "target-libdir", "--target", ARM)
+        if not missing("cargo", "rustc", path=folder) and any(pathlib.Path(place).glob("libcore-*")):
+            return folder
+    return None
 
 
 class Install(unittest.TestCase):
-    """Each test has a folder with an archive, and a folder to install below."""
-
     def setUp(self):
         room = tempfile.TemporaryDirectory()
         self.addCleanup(room.cleanup)
-        self.room = pathlib.Path(room.name)
-        self.archive = self.room / f"mldsa-0.2.0-{os.uname().machine}-linux"
-        self.make(self.archive)
-        self.prefix = self.room / "target/local"
+        self.room = pathlib.Path(room.name).resolve()
+        self.prefix = self.room / "local"
+
+    def runs(self, *words, status=0, environment=(), **more):
+        """What a command prints, which has to end with a status."""
+        done = subprocess.run([str(it) for it in words], env={**os.environ, **dict(environment)}, text=True,
+                              stdout=subprocess.PIPE, stderr=subprocess.STDOUT, check=False, **more)
+        self.assertEqual(done.returncode, status, f"{words}\n{done.stdout}")
+        return done.stdout
+
+    def make(self, *words, program="", **more):
+        """Runs make at the top, with a program beside the library or none."""
+        return self.runs("make", "-C", TOP, "--no-print-directory", *words, f"mlsign={program}", **more)
 
     @staticmethod
-    def make(archive, text="text"):
-        for name, mode in FILES.items():
-            file = archive / name
-            file.parent.mkdir(parents=True, exist_ok=True)
-            file.write_text(f"{text} of {name}\n", encoding="utf-8")
-            file.chmod(mode)
-        shutil.copy(INSTALL, archive / "install")
+    def files(top):
+        """What is below a folder and no folder itself."""
+        return {str(it.relative_to(top)) for it in top.rglob("*") if it.is_symlink() or not it.is_dir()}
 
-    def run_install(self, *words, archive=None, umask=0o022, **environment):
-        return subprocess.run(
-            [str((archive or self.archive) / "install"), "--prefix", str(self.prefix), *words], text=True, check=False,
-            stdout=subprocess.PIPE, stderr=subprocess.STDOUT, umask=umask, env={**os.environ, **environment})
+    def answers(self, *words, **more):
+        """A program of c/tests/answers.c has the recorded keys and signature, and its verdict is yes."""
+        *fields, verdict = self.runs(*words, input="\t".join(ROW[:5]) + "\n", **more).strip().split("\t")
+        self.assertEqual([hashlib.sha256(bytes.fromhex(it)).hexdigest() for it in fields], ROW[5:8], words)
+        self.assertEqual(verdict, "1", words)
 
-    def installed(self, root=None):
-        root = root or self.prefix
-        return {str(file.relative_to(root)) for file in root.rglob("*") if file.is_file()}
+    def compiled(self, name, *flags, cc="cc"):
+        made = self.room / name
+        self.runs(cc, "-std=c11", "-Wall", "-Werror", TOP / "c/tests/answers.c", *flags, "-o", made)
+        return made
 
-    def test_installs_and_takes_out(self):
-        self.assertEqual(self.run_install().returncode, 0)
-        self.assertEqual(self.installed(), {*FILES, "share/doc/mldsa/INSTALLED"})
-        self.assertEqual(self.run_install("--uninstall").returncode, 0)
-        self.assertEqual([*self.room.iterdir()], [self.archive])
+    def flags(self, prefix, *words):
+        """What pkg-config says of a library below a folder, which is asked for its version too."""
+        place = {"PKG_CONFIG_PATH": f"{prefix}/lib/pkgconfig"}
+        self.assertEqual(self.runs("pkg-config", "--modversion", "mldsa", environment=place), "0.2.0\n")
+        said = self.runs("pkg-config", "--cflags", "--libs", *words, "mldsa", environment=place)
+        return [it.replace("\\ ", " ") for it in re.findall(r"(?:\\ |\S)+", said)]
 
-    def test_everybody_can_read_it_under_any_umask(self):
-        self.assertEqual(self.run_install(umask=0o077).returncode, 0)
-        for name, mode in FILES.items():
-            self.assertEqual((self.prefix / name).stat().st_mode & 0o777, mode, name)
-        for folder in self.prefix.rglob("*"):
-            if folder.is_dir():
-                self.assertEqual(folder.stat().st_mode & 0o777, 0o755, folder)
-
-    def test_a_newer_version_replaces_an_older_one(self):
-        self.assertEqual(self.run_install().returncode, 0)
-        self.make(self.archive, "newer text")
-        (self.archive / "share/man/man1/mlsign.1").unlink()
-        self.assertEqual(self.run_install().returncode, 0)
-        self.assertEqual((self.prefix / "bin/mlsign").read_text(encoding="utf-8"), "newer text of bin/mlsign\n")
-        self.assertNotIn("share/man/man1/mlsign.1", self.installed())
-
-    def test_somebody_elses_file_stays(self):
-        mine = self.prefix / "bin/mlsign"
+    def test_files(self):
+        """what is installed, whatever the umask, and nothing is left when it is taken out; with DESTDIR and without"""
+        stage, mine = self.room / "stage", self.prefix / "share/doc/mine"
         mine.parent.mkdir(parents=True)
         mine.write_text("mine", encoding="utf-8")
-        done = self.run_install()
-        self.assertEqual(done.returncode, 1, done.stdout)
-        self.assertIn("was not installed by this", done.stdout)
-        self.assertEqual((self.installed(), mine.read_text(encoding="utf-8")), ({"bin/mlsign"}, "mine"))
+        for words, root in ((["PREFIX=/usr", f"DESTDIR={stage}"], stage / "usr"), ([f"PREFIX={self.prefix}"], self.prefix)):
+            before = self.files(self.room)
+            self.make("install", *words, umask=0o077)
+            self.assertEqual(self.files(root) - {"share/doc/mine"}, LIBRARY)
+            for name in LIBRARY:
+                self.assertEqual((root / name).stat().st_mode & 0o777, 0o644, name)
+            self.make("install", *words)
+            self.make("uninstall", *words)
+            self.assertEqual(self.files(self.room), before)
+            self.assertEqual([it for it in root.rglob("*mldsa*")], [])
+        self.assertEqual(self.runs("grep", "-rl", stage, stage, status=1), "")
 
-    def test_destdir_stands_before_all_and_in_no_list(self):
-        stage = self.room / "stage"
-        self.assertEqual(self.run_install(DESTDIR=str(stage)).returncode, 0)
-        root = pathlib.Path(f"{stage}{self.prefix}")
-        self.assertEqual(self.installed(root), {*FILES, "share/doc/mldsa/INSTALLED"})
-        self.assertNotIn(str(stage), (root / "share/doc/mldsa/INSTALLED").read_text(encoding="utf-8"))
-        self.assertEqual(self.run_install("--uninstall", DESTDIR=str(stage)).returncode, 0)
-        self.assertFalse(stage.exists() and self.installed(stage))
+    def test_nothing(self):
+        """where the library is not built nothing is installed"""
+        said = self.make("install", "LIBRARY=none", f"PREFIX={self.prefix}", status=2)
+        self.assertIn("`make LIBRARY=none` builds it", said)
         self.assertFalse(self.prefix.exists())
 
-    def test_a_list_that_leads_outside_removes_nothing(self):
-        victim = self.prefix.parent / "victim"
-        self.assertEqual(self.run_install().returncode, 0)
-        victim.write_text("kept", encoding="utf-8")
-        with open(self.prefix / "share/doc/mldsa/INSTALLED", "a", encoding="utf-8") as names:
-            names.write("../victim\n")
-        self.assertEqual(self.run_install("--uninstall").returncode, 1)
-        self.assertTrue(victim.exists())
-        self.assertLess(FILES.keys(), self.installed())
+    @wants("cc", "pkg-config", "readelf")
+    def test_pkg_config(self):
+        """programs by pkg-config, shared and static, where it is installed and where it was moved to"""
+        self.make("install", f"PREFIX={self.prefix}")
+        self.make("install", "PREFIX=", f"DESTDIR={self.room}/made")
+        (self.room / "made").rename(self.room / "moved")
+        for prefix in (self.prefix, self.room / "moved"):
+            flags = self.flags(prefix)
+            shared = self.compiled("shared", *flags)
+            said = self.runs("readelf", "-d", shared)
+            self.assertEqual(re.findall(r"\(NEEDED\).*\[(libmldsa.*)\]", said), ["libmldsa.so.0.2"])
+            self.answers(shared, environment={"LD_LIBRARY_PATH": f"{prefix}/lib"})
+            self.runs(shared, status=127)
+            self.answers(self.compiled("static", "-static", *self.flags(prefix, "--static")))
+            self.answers(self.compiled("archive", f"-I{prefix}/include", prefix / "lib/libmldsa.a"))
 
-    def test_what_a_failed_copy_leaves_is_taken_out(self):
-        # A link that leads nowhere is copied as it is; a file that nobody can read is not, nor is one on a full disk.
-        tools = self.room / "tools"
-        tools.mkdir()
-        copy = tools / "cp"
-        copy.write_text('#!/bin/sh\ncase "$*" in *share/man*) echo "No space left on device" >&2; exit 1 ;; esac\n'
-                        f'exec {shutil.which("cp")} "$@"\n', encoding="utf-8")
-        copy.chmod(0o755)
-        done = self.run_install(PATH=f"{tools}:{os.environ['PATH']}")
-        self.assertNotEqual(done.returncode, 0)
-        self.assertIn("taken out again", done.stdout)
-        self.assertFalse(self.prefix.exists() and self.installed())
+    @wants("cc", "cmake")
+    def test_find_package(self):
+        """programs by CMake's find_package, which takes no other minor version"""
+        self.make("install", f"PREFIX={self.prefix}")
+        words = ("cmake", "-S", self.room, f"-DCMAKE_PREFIX_PATH={self.prefix}", "-B")
+        for version in ("", "0.2", "0.2.0"):
+            (self.room / "CMakeLists.txt").write_text(FOUND.format(version=version, top=TOP), encoding="utf-8")
+            self.runs(*words, self.room / f"built{version}")
+        self.runs("cmake", "--build", self.room / "built")
+        for kind in ("mldsa", "shared", "static"):
+            self.answers(self.room / "built" / kind)
+        for version in ("0.1", "0.3", "0.2.9"):
+            (self.room / "CMakeLists.txt").write_text(FOUND.format(version=version, top=TOP), encoding="utf-8")
+            self.assertIn("version", self.runs(*words, self.room / f"other{version}", status=1))
 
-    def test_the_archive_of_another_machine_says_no(self):
-        other = self.room / f"mldsa-0.2.0-{'aarch64' if os.uname().machine == 'x86_64' else 'x86_64'}-linux"
-        self.make(other)
-        done = self.run_install(archive=other)
-        self.assertEqual(done.returncode, 1, done.stdout)
-        self.assertIn("another machine", done.stdout)
-        self.assertFalse(self.prefix.exists())
+    @wants("cc", "cmake", "cargo")
+    def test_in_tree(self):
+        """a program by CMake that has this repository in its tree"""
+        (self.room / "CMakeLists.txt").write_text(IN_TREE.format(top=TOP), encoding="utf-8")
+        self.runs("cmake", "-S", self.room, "-B", self.room / "built",
+                  f"-DMLDSA_CARGO_FLAGS={';'.join(registry.cargo_words())}")
+        self.runs("cmake", "--build", self.room / "built")
+        self.answers(self.room / "built/answers")
+
+    @wants("aarch64-linux-gnu-gcc", "qemu-aarch64", "pkg-config")
+    def test_cross(self):
+        """for another processor: 64-bit ARM, run by qemu"""
+        rust = rust_for_arm()
+        if not rust:
+            self.skipTest(f"no rustc has a library for {ARM}: `rustup target add {ARM}`")
+        own = {"PATH": f"{rust}:{os.environ['PATH']}", "CARGO_TARGET_AARCH64_UNKNOWN_LINUX_GNU_LINKER": "aarch64-linux-gnu-gcc"}
+        self.make(f"LIBRARY={ARM}", environment=own)
+        self.make("install", f"LIBRARY={ARM}", f"PREFIX={self.prefix}")
+        self.assertEqual(self.files(self.prefix), LIBRARY)
+        flags = self.flags(self.prefix)
+        for name, more in (("static", ["-static"]), ("shared", [f"-Wl,-rpath,{self.prefix}/lib"])):
+            program = self.compiled(name, *flags, *more, cc="aarch64-linux-gnu-gcc")
+            self.answers(*emulator("aarch64"), program)
+
+    def test_program(self):
+        """mlsign, where it was built, with its completion, and its page where there is pandoc"""
+        program, pandoc = self.room / "mlsign", not missing("pandoc")
+        program.write_text(MLSIGN, encoding="utf-8")
+        program.chmod(0o700)
+        self.make("install", f"PREFIX={self.prefix}", program=program)
+        wanted = PROGRAM | ({"share/man/man1/mlsign.1"} if pandoc else set())
+        self.assertEqual(self.files(self.prefix), LIBRARY | wanted)
+        self.assertEqual((self.prefix / "bin/mlsign").stat().st_mode & 0o777, 0o755)
+        if pandoc and not missing("man", "lexgrog"):
+            page = self.prefix / "share/man/man1/mlsign.1"
+            self.assertIn('"mlsign - sign and verify files', self.runs("lexgrog", page))
+            said = self.runs("sh", "-c", 'man --warnings -E UTF-8 -l "$1" 2>&1 > /dev/null', "sh", page)
+            self.assertEqual(said, "")
+            shown = self.runs("man", "-l", page, environment={"MANWIDTH": "100", "LC_ALL": "C.UTF-8"})
+            for line in ("mlsign(1)", "-k, --private FILE", "    $ mlsign keygen --private release.pem --public",
+                         "    $ echo 'version 1.0' > notes", "EXIT STATUS", "mldsa 0.2.0"):
+                self.assertIn(line, shown)
+        self.make("uninstall", f"PREFIX={self.prefix}")
+        self.assertEqual(self.files(self.prefix), set())
+
+    @unittest.skipUnless(os.path.exists("/usr/share/bash-completion/bash_completion"), "there is no bash-completion")
+    def test_completion(self):
+        """what bash offers: commands, the options of their help, and files"""
+        (self.room / "mlsign").write_text(MLSIGN, encoding="utf-8")
+        (self.room / "mlsign").chmod(0o755)
+        script = f'''. /usr/share/bash-completion/bash_completion; . {TOP}/packaging/mlsign.bash
+            tried() {{ COMP_LINE="$*" COMP_POINT=${{#COMP_LINE}} COMP_WORDS=("$@") COMP_CWORD=$(($# - 1))
+                      COMP_POINT=${{#COMP_LINE}}; _mlsign ./mlsign; echo "${{COMPREPLY[@]}}"; }}
+            tried ./mlsign ver; tried ./mlsign sign --; tried ./mlsign sign ml'''
+        said = self.runs("bash", "-c", script, cwd=self.room)
+        self.assertEqual(said.splitlines(), ["verify", "--private --deterministic", "mlsign"])
 
 
 if __name__ == "__main__":
-    unittest.main()
+    sys.exit(1 if testing.run(Install) else 0)
