@@ -21,7 +21,7 @@ import wheels
 from common import missing
 
 # The tools that scripts/release names.
-TOOLS = ("gcc", "ld", "objcopy", "ar", "nm", "readelf", "strip", "dpkg-deb", "pandoc", "wasm-opt", "wasm2c",
+TOOLS = ("gcc", "ld", "objcopy", "ar", "nm", "readelf", "strip", "dpkg-deb", "pandoc", "wasm-opt",
          "aarch64-linux-gnu-gcc")
 RT = """#!/bin/sh
 [ "$1" = version ] && echo 'kit of this test' && exit
