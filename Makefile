@@ -1,15 +1,21 @@
-# The targets; `make` alone lists them. What they do is in scripts/.
+# The ways in; `make help` lists them. What tests and steps do is in scripts/.
 PREFIX = /usr/local
+LIBDIR = $(PREFIX)/lib
+INSTALL = install
+# The library, by a word of scripts/archive: rust, a target of rustc for another processor, or x86-64 and aarch64 of the kit.
+LIBRARY = rust
+
+build:
+	@scripts/archive $(LIBRARY)
 
 help:
+	@echo 'make                        the library for C, by cargo, in out/archive/rust: a quarter of a minute'
+	@echo 'make install PREFIX=/DIR    install it, and mlsign where it was built, by default below $(PREFIX)'
+	@echo 'make uninstall PREFIX=/DIR  take that out again'
 	@echo 'make run                    build the program mldsa of the proved source, and run it: half a minute'
 	@echo 'make test                   every test that needs no proof: 7 minutes'
-	@echo 'make library                the library for C, by cargo, in out/archive/rust: a quarter of a minute'
 	@echo 'make check                  make test, and with the Rattle kit each proof and mutation, and the tests of what it builds: 2 hours'
 	@echo 'make release                make the packages, with the kit, in dist/: 2 hours, then 5 minutes'
-	@echo 'make install PREFIX=/DIR    install what make release made, by default below $(PREFIX): a second'
-
-include scripts/steps.mk
 
 run:
 	@scripts/programs run
@@ -23,7 +29,7 @@ check:
 release:
 	scripts/release
 
-install:
-	scripts/install --prefix "$(PREFIX)"
+include scripts/steps.mk
+include packaging/install.mk
 
-.PHONY: help run test check release install
+.PHONY: build help run test check release
