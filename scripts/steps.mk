@@ -37,7 +37,7 @@ vectors-rust: tools ; $(step) cargo -- vectors/run rust
 vectors-wasm: tools ; $(step) node -- vectors/run wasm
 js: tools ; $(step) node -- js/test --package
 js-page: tools ; $(step) node -- js/test --page
-python: library ; $(step) gcc -- $(python) python/test --processor rust
+python: library ; $(step) cargo -- $(python) python/test --processor rust
 lint: tools ; $(step) -- scripts/lint
 refusals: tools ; $(step) git -- packaging/test_release.py
 
