@@ -140,7 +140,7 @@ extern "C" {
 
 /* How many arrays a call reads and how many it then writes, each with its length behind it. */
 #define MLDSA_ARRAYS(read, written) MLDSA_READS_##read MLDSA_WRITES_##written##_BEHIND_##read
-#if defined(__GNUC__) && !defined(__clang__) && __GNUC__ >= 10 && !defined(MLDSA_IS_PORTABLE)
+#if defined(__GNUC__) && !defined(__clang__) && __GNUC__ >= 10
 #define MLDSA_ARRAY(how, pointer, length) __attribute__((access(how, pointer, length)))
 #else
 #define MLDSA_ARRAY(how, pointer, length)

@@ -6,6 +6,8 @@ import pathlib
 import re
 import sys
 
+sys.path.append(str(pathlib.Path(__file__).resolve().parent.parent / "c"))
+
 import completions
 import exports
 import manual
@@ -193,19 +195,6 @@ def archive_arm(facts, library, provenance):
              "TARGETS": "mldsa::static"}
     tree.put("README", facts.filled("README", **marks))
     tree.take("install", TOP / "scripts/install", program=True)
-    return tree
-
-
-def portable_c(source, provenance):
-    """The archive of portable C, made of the folder in which scripts/archive puts it."""
-    tree = pack.Tree()
-    tree.take("mldsa.c", source)
-    tree.take("mldsa_portable.h", source.with_name("mldsa_portable.h"))
-    for name in ("mldsa.h", "sign_file.c"):
-        tree.take(name, TOP / "c" / name)
-    tree.take("README.md", TOP / "c/portable/README.md")
-    tree.take("LICENSE", TOP / "LICENSE")
-    tree.put("PROVENANCE", provenance)
     return tree
 
 

@@ -1,27 +1,23 @@
 #!/usr/bin/env python3
 """Tests of what scripts/release and scripts/archive reject, in a clone of this repository and without the kit:
 a command of its name stands for it."""
-import email
 import hashlib
-import io
 import os
 import pathlib
 import subprocess
 import sys
 import tempfile
 import unittest
-import zipfile
 
 TOP = pathlib.Path(__file__).resolve().parent.parent
 sys.dont_write_bytecode = True
-sys.path[:0] = [str(TOP / name) for name in ("scripts", "packaging", "python")]
+sys.path[:0] = [str(TOP / name) for name in ("scripts", "packaging")]
 
 import contents
-import wheels
 from common import missing
 
 # The tools that scripts/release names.
-TOOLS = ("gcc", "ld", "objcopy", "ar", "nm", "readelf", "strip", "dpkg-deb", "pandoc", "wasm-opt", "wasm2c",
+TOOLS = ("gcc", "ld", "objcopy", "ar", "nm", "readelf", "strip", "dpkg-deb", "pandoc", "wasm-opt",
          "aarch64-linux-gnu-gcc")
 RT = """#!/bin/sh
 [ "$1" = version ] && echo 'kit of this test' && exit
@@ -121,19 +117,6 @@ class Publisher(unittest.TestCase):
                                     ({}, checkout, "Report it in private")):
             page = contents.page(self.facts(said), "SECURITY.md")
             self.assertEqual((page.count(wanted), page.count(other)), (1, 0))
-
-    def test_wheel(self):
-        """The wheel names the project's page and repository."""
-        home = {"homepage": "https://a.example", "repository": "https://a.example/git"}
-        for said, wanted in ((home, ["Homepage, https://a.example", "Repository, https://a.example/git"]), ({}, None)):
-            with tempfile.NamedTemporaryFile() as library:
-                name, made = wheels.wheel(self.facts(said), pathlib.Path(library.name), contents.X86)
-            with zipfile.ZipFile(io.BytesIO(made)) as archive:
-                found, = (it for it in archive.namelist() if it.endswith("/METADATA"))
-                described = email.message_from_bytes(archive.read(found))
-            self.assertEqual(described.get_all("Project-URL"), wanted)
-            self.assertTrue(described["Requires-Python"] and described["Description-Content-Type"], name)
-            self.assertIn("# ML-DSA for Python", described.get_payload())
 
 
 if __name__ == "__main__":

@@ -25,7 +25,6 @@ ARM_ROOT = "/usr/aarch64-linux-gnu"
 # Of the first signature of a page: what it wants, where its code goes, and how it ends.
 FIRST: dict[str, tuple[tuple[str, ...], str, str]] = {
     "c": (("cc",), "", "\nverified: yes\n"),
-    "c/portable": (("arm-linux-gnueabihf-gcc", "qemu-arm"), "", "\nverified: yes\n"),
     "js": (("node", "npm"), "first.mjs", "\ntrue\n"),
     "python": (("python3", "pip"), "first.py", "\nthe signature is invalid\n"),
     "rust/fips204": (("cargo",), "src/main.rs", ""),
@@ -300,15 +299,6 @@ class Tries(unittest.TestCase):
         room.copied(folder, "answers_package.py")
         room.answers("python3", folder / "answers_package.py", PYTHONPATH=str(folder))
 
-    @wants("cc")
-    def test_in_portable_c(self, room):
-        """Portable C, compiled as its page says."""
-        top = room.unpacked("mldsa-*-c.tar.gz", "portable")
-        folder = room.copied(room.folder("in-portable-c"), "answers.c")
-        room.run("cc", "-std=c99", "-O1", "-c", top / "mldsa.c", f"-I{top}", cwd=folder)
-        room.run("cc", "-std=c11", "answers.c", "mldsa.o", f"-I{top}", "-o", "answers", cwd=folder)
-        room.answers(folder / "answers")
-
     @wants(own=wants_cargo)
     def test_in_rust(self, room):
         """Rust: a program over the packed crate, with cargo and no network."""
@@ -494,9 +484,8 @@ class Tries(unittest.TestCase):
         for name, (tools, place, wanted) in FIRST.items():
             lines = lines_of_page(name)
             lacking = lacks(*tools) if tools != ("cargo",) else missing(*tools)
-            if lacking or room.short and name == "c/portable":
-                why = f"there is no {', '.join(lacking)}" if lacking else "it compiles for a minute"
-                print(f"    not run, since {why}: the first signature of {name}/README.md")
+            if lacking:
+                print(f"    not run, since there is no {', '.join(lacking)}: the first signature of {name}/README.md")
                 continue
             folder = room.path / f"in-pages-{name.replace('/', '-')}"
             shutil.copytree(room.dist, folder)

@@ -18,7 +18,7 @@ list-test: ; @echo $(TEST)
 list-check: ; @echo $(CHECK) $(TEST)
 
 tools: ; $(step) -- scripts/tools
-definitions: ; $(step) -- scripts/run-definitions --short
+definitions: ; $(step) -- tools/definitions/run --short
 pages: ; $(step) -- scripts/pages
 installs: ; $(step) -- packaging/test_install.py
 tokens: ; $(step) -- tools/tokens
@@ -37,7 +37,7 @@ vectors-rust: tools ; $(step) cargo -- vectors/run rust
 vectors-wasm: tools ; $(step) node -- vectors/run wasm
 js: tools ; $(step) node -- js/test --package
 js-page: tools ; $(step) node -- js/test --page
-python: library ; $(step) gcc -- $(python) python/test --processor rust
+python: library ; $(step) cargo -- $(python) python/test --processor rust
 lint: tools ; $(step) -- scripts/lint
 refusals: tools ; $(step) git -- packaging/test_release.py
 
@@ -66,5 +66,5 @@ ledger: archives ; $(step) gcc readelf -- $(python) examples/ledger/test
 mlsign: proof tools-check ; $(step) cc -- scripts/mlsign-program
 mlsign-edges: proof tools-check ; $(step) cc -- scripts/mlsign-edges
 examples: proof ; $(step) -- examples/test
-packages: archives ; $(step) gcc objcopy readelf strip dpkg-deb pandoc wasm-opt wasm2c aarch64-linux-gnu-gcc -- \
+packages: archives ; $(step) gcc objcopy readelf strip dpkg-deb pandoc wasm-opt aarch64-linux-gnu-gcc -- \
 	$(python) scripts/release --try --short

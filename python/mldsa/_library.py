@@ -31,7 +31,7 @@ def room(length: int) -> "ctypes.Array[ctypes.c_char]":
 
 
 def _loaded() -> ctypes.CDLL:
-    path = os.path.join(os.path.dirname(os.path.abspath(__file__)), "libmldsa.so")
+    path = os.path.join(os.path.dirname(os.path.abspath(__file__)), "libmldsa.abi3.so")
     try:
         library = ctypes.CDLL(path)
     except OSError as error:
@@ -44,8 +44,9 @@ def _loaded() -> ctypes.CDLL:
         function.argtypes = [*[ctypes.c_uint32] * numbers, *words]
         function.restype = ctypes.c_uint32
     found = library.mldsa_version()
-    if found >> 8 != VERSION >> 8 or found < VERSION:
-        raise ImportError(f"the shared library of mldsa has version {found:#08x}, not {VERSION_TEXT}", path=path)
+    if found != VERSION:
+        said = ".".join(str(found >> shift & 255) for shift in (16, 8, 0))
+        raise ImportError(f"the shared library of mldsa has version {said}, and not {VERSION_TEXT}", path=path)
     return library
 
 

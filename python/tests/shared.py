@@ -9,7 +9,7 @@ from unittest import mock
 
 TOP = pathlib.Path(__file__).resolve().parent.parent.parent
 sys.dont_write_bytecode = True
-sys.path[:0] = [str(TOP / "scripts"), str(TOP / "vectors")]
+sys.path[:0] = [str(TOP / name) for name in ("scripts", "vectors", "c")]
 
 import common
 import mldsa

@@ -1,9 +1,11 @@
 """The package as it is installed, beside c/mldsa.h."""
-import base64
-import hashlib
 import importlib.metadata
+import os
 import pathlib
 import re
+import shutil
+import subprocess
+import tempfile
 import unittest
 
 import shared
@@ -26,14 +28,17 @@ class Package(unittest.TestCase):
         self.assertIsNone(importlib.metadata.requires("mldsa"))
         self.assertTrue((pathlib.Path(mldsa.__file__).parent / "py.typed").is_file())
 
-    def test_record(self):
-        """Each installed file is the one that the wheel's list names, and there is no other."""
-        about, top = importlib.metadata.distribution("mldsa"), pathlib.Path(mldsa.__file__).parent
-        listed = {str(it): it.hash.value for it in about.files if it.hash is not None and it.parent.name == "mldsa"}
-        for name, value in listed.items():
-            digest = hashlib.sha256((top.parent / name).read_bytes()).digest()
-            self.assertEqual(base64.urlsafe_b64encode(digest).decode().rstrip("="), value, name)
-        self.assertEqual({f"mldsa/{it.name}" for it in top.iterdir() if it.is_file()}, set(listed))
+    def test_other_version(self):
+        """A shared library of another version is refused."""
+        with tempfile.TemporaryDirectory() as room:
+            copy = pathlib.Path(shutil.copytree(pathlib.Path(mldsa.__file__).parent, f"{room}/mldsa")) / "_interface.py"
+            said = copy.read_text(encoding="utf-8")
+            copy.write_text(said.replace(f"VERSION: int = {VERSION:#08x}", f"VERSION: int = {VERSION + 1:#08x}"))
+            self.assertNotEqual(copy.read_text(encoding="utf-8"), said)
+            done = subprocess.run([*shared.PYTHON, "-c", "import mldsa"], env=dict(os.environ, PYTHONPATH=room),
+                                  capture_output=True, text=True, check=False)
+        self.assertEqual(done.returncode, 1)
+        self.assertIn(f"ImportError: the shared library of mldsa has version {mldsa.__version__}, and not", done.stderr)
 
     def test_each_call_is_declared(self):
         """With as many arguments as the header has, so that none is passed in 32 bits."""

@@ -1,5 +1,9 @@
 """The definitions of specs/, as text: each with its comment, its lines, and the names that its file imports."""
+import pathlib
 import re
+import sys
+
+sys.path.append(str(pathlib.Path(__file__).resolve().parents[2] / "scripts"))
 
 from common import TOP
 

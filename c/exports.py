@@ -1,8 +1,10 @@
 """The exports of the static library as c/mldsa.h declares them, and the C that is generated of them."""
+import pathlib
 import re
 import sys
 
-from common import SETS, text
+HEADER = (pathlib.Path(__file__).resolve().parent / "mldsa.h").read_text(encoding="utf-8")
+SETS = ("44", "65", "87")
 
 PROTOTYPE = re.compile(r"^(?!static|typedef|#|extern)(\w[\w \t]*?[ \t*]+)(\w+)\(([^()]*)\);", re.M)
 PARAMETER = re.compile(r"(.*[ *])(\w+)")
@@ -41,7 +43,7 @@ class Export:
 
 def exports():
     """Each export that the header declares, in its order."""
-    header = re.sub(r"/\*.*?\*/", "", text("c/mldsa.h"), flags=re.S)
+    header = re.sub(r"/\*.*?\*/", "", HEADER, flags=re.S)
     found = [Export(*prototype) for prototype in PROTOTYPE.findall(header)]
     inline = len(re.findall(r"^static inline", header, re.M))
     if len(found) != len(re.findall(r"^[^#\s}].*\bmldsa\w*\(", header, re.M)) - inline:
@@ -76,7 +78,7 @@ def lengths(name):
     """The length of an array at each set, where the header has a number for it; else 0, for any."""
     found = []
     for prefix in (f"MLDSA(?:{number})?" for number in SETS):
-        defined = re.search(rf"#define {prefix}_{name.upper()}_LEN (\d+)", text("c/mldsa.h"))
+        defined = re.search(rf"#define {prefix}_{name.upper()}_LEN (\d+)", HEADER)
         found.append(int(defined[1]) if defined else 0)
     return found
 
