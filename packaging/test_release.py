@@ -1,9 +1,15 @@
 #!/usr/bin/env python3
-"""Tests of what scripts/release and scripts/archive reject, in a clone of this repository and without the kit:
-a command of its name stands for it."""
+"""Tests of what scripts/release and scripts/archive reject, in a clone of this repository and without the kit: a command
+of its name stands for it. And of how the files of a release are checked."""
+import base64
+import contextlib
 import hashlib
+import importlib.machinery
+import io
 import os
 import pathlib
+import re
+import shutil
 import subprocess
 import sys
 import tempfile
@@ -11,14 +17,11 @@ import unittest
 
 TOP = pathlib.Path(__file__).resolve().parent.parent
 sys.dont_write_bytecode = True
-sys.path[:0] = [str(TOP / name) for name in ("scripts", "packaging")]
+sys.path.insert(0, str(TOP / "scripts"))
 
-import contents
 from common import missing
 
-# The tools that scripts/release names.
-TOOLS = ("gcc", "ld", "objcopy", "ar", "nm", "readelf", "strip", "dpkg-deb", "pandoc", "wasm-opt",
-         "aarch64-linux-gnu-gcc")
+release = importlib.machinery.SourceFileLoader("release", str(TOP / "scripts/release")).load_module()
 RT = """#!/bin/sh
 [ "$1" = version ] && echo 'kit of this test' && exit
 echo 'rt was asked'
@@ -38,11 +41,11 @@ class Refusals(unittest.TestCase):
         self.command("git", "clone", "-q", TOP, self.clone, cwd=TOP)
         # What is not committed yet is tested too.
         for name in ("scripts/release", "scripts/archive", "scripts/common.py", "packaging/PUBLISHER",
-                     "packaging/contents.py"):
+                     "packaging/tries.py", "packaging/PROVENANCE"):
             (self.clone / name).write_bytes((TOP / name).read_bytes())
         self.tools.mkdir()
         # (what a release wants beside the kit, and is not here, is never run)
-        for name, script in [("rt", RT), *((name, "#!/bin/sh\nexit 1\n") for name in missing(*TOOLS))]:
+        for name, script in [("rt", RT), *((name, "#!/bin/sh\nexit 1\n") for name in missing(*release.TOOLS))]:
             (self.tools / name).write_text(script, encoding="utf-8")
             (self.tools / name).chmod(0o755)
         self.commit()
@@ -65,11 +68,36 @@ class Refusals(unittest.TestCase):
         return file
 
     def test_blanks(self):
+        """What only the publisher knows is asked for by name, and all else is made."""
         without = PUBLISHER.replace("https://a.example\n", "\n")
         (self.clone / "packaging/PUBLISHER").write_text(without, encoding="utf-8")
         self.commit()
-        status, said = self.command("scripts/release")
-        self.assertEqual((status, said), (1, "packaging/PUBLISHER has no homepage: whoever publishes fills it in\n"))
+        said = self.command("scripts/release")[1]
+        self.assertIn("to fill in before it is signed: packaging/PUBLISHER has no homepage: the address of the project's page\n", said)
+        self.assertEqual(re.findall("PUBLISHER has no (\\w+)", said), ["homepage"])
+        self.assertIn("to fill in before it is signed: debian/control says 'example.invalid'\n", said)
+        self.assertIn("rt was asked", said)
+
+    def test_signed(self):
+        """Nothing is signed while a blank is left, nor without a key; and the files are listed."""
+        signer, made = self.tools / "signer", self.tools / "made"
+        signer.write_text('#!/bin/sh\necho "$@" >> "$0.calls"\n', encoding="utf-8")
+        signer.chmod(0o755)
+        facts = release.Facts()
+        for blanks, key, trial, wanted in ((["a blank"], "key", False, 1), (["a blank"], None, False, 0), ([], None, False, 0),
+                                           ([], "key", False, 0), (["a blank"], "key", True, 0)):
+            made.mkdir()
+            (made / "file").write_text("content", encoding="utf-8")
+            facts.blanks, said, calls = blanks, io.StringIO(), pathlib.Path(f"{signer}.calls")
+            with contextlib.redirect_stdout(said):
+                self.assertEqual(release.sign(facts, made, signer, key, trial), wanted)
+            listed = (made / "SHA256SUMS").read_text(encoding="utf-8")
+            self.assertEqual(listed, f"{hashlib.sha256(b'content').hexdigest()}  file\n")
+            signed = bool(key) and (trial or not blanks)
+            self.assertEqual((calls.exists(), "not signed" in said.getvalue()), (signed, not signed))
+            self.assertEqual("a blank" in said.getvalue(), bool(wanted))
+            calls.unlink(missing_ok=True)
+            shutil.rmtree(made)
 
     def test_of_a_new_clone(self):
         (self.clone / "packaging/PUBLISHER").write_text(PUBLISHER, encoding="utf-8")
@@ -102,21 +130,73 @@ class Refusals(unittest.TestCase):
             self.assertEqual((status == 0, "rt was asked" not in said), (is_taken, is_taken), said)
 
 
-class Publisher(unittest.TestCase):
-    """What packages say of who publishes them, where that is said, and where it is not."""
+def openssl(*words, **more):
+    """What the command openssl prints, as bytes."""
+    return subprocess.run(["openssl", *map(str, words)], check=True, stdout=subprocess.PIPE, **more).stdout
 
-    def facts(self, said):
-        facts = contents.Facts()
-        facts.publisher = {**dict.fromkeys(facts.publisher, ""), **said}
-        return facts
 
-    def test_security(self):
-        """SECURITY.md names the place for flaws that a publisher has, and else what a checkout's does."""
-        checkout = "Use a private security advisory of the repository"
-        for said, wanted, other in (({"flaws": "a@a.example"}, "Report it in private (a@a.example).", checkout),
-                                    ({}, checkout, "Report it in private")):
-            page = contents.page(self.facts(said), "SECURITY.md")
-            self.assertEqual((page.count(wanted), page.count(other)), (1, 0))
+@unittest.skipIf(missing("openssl"), "there is no openssl")
+class Check(unittest.TestCase):
+    """The lines by OpenSSL with which PROVENANCE has a file checked, over keys of a scheme that every OpenSSL knows."""
+
+    def setUp(self):
+        room = tempfile.TemporaryDirectory()
+        self.addCleanup(room.cleanup)
+        self.room = pathlib.Path(room.name)
+        page = (TOP / "packaging/PROVENANCE").read_text(encoding="utf-8")
+        self.told, self.checked, *_ = (line.strip() for line in page.splitlines() if line.startswith("    "))
+        (self.room / "a-0.2.0.tgz").write_text("content", encoding="utf-8")
+        (self.room / "SHA256SUMS").write_text(f"{hashlib.sha256(b'content').hexdigest()}  a-0.2.0.tgz\n", encoding="utf-8")
+        self.keys = {who: self.pair(who) for who in ("owner", "other")}
+
+    def pair(self, who):
+        """A new key: its public key in PEM, and its fingerprint."""
+        key = self.room / f"{who}.pem"
+        key.write_bytes(openssl("genpkey", "-algorithm", "ed25519"))
+        of_der = hashlib.sha256(openssl("pkey", "-in", key, "-pubout", "-outform", "DER")).digest()
+        return openssl("pkey", "-in", key, "-pubout").decode(), base64.b64encode(of_der).decode().rstrip("=")
+
+    def run_line(self, line, file="a-0.2.0.tgz"):
+        done = subprocess.run(["sh", "-c", line.replace("FILE", file)], cwd=self.room, text=True, check=False,
+                              stdout=subprocess.PIPE, stderr=subprocess.DEVNULL)
+        return done.returncode, done.stdout
+
+    def signed(self, who, public):
+        """A release that somebody signed, with this release.pub."""
+        (self.room / "release.pub").write_text(public, encoding="utf-8")
+        signature = openssl("pkeyutl", "-sign", "-inkey", self.room / f"{who}.pem", "-rawin", "-in", self.room / "SHA256SUMS")
+        (self.room / "SHA256SUMS.sig").write_bytes(signature)
+
+    def test_file(self):
+        """A file that is in the signed list passes; a changed one, one that is not in it, and a changed list do not."""
+        public, fingerprint = self.keys["owner"]
+        self.signed("owner", public)
+        self.assertEqual(self.run_line(self.told), (0, f"{fingerprint}\n"))
+        self.assertEqual(self.run_line(self.checked)[0], 0)
+        self.assertIn("a-0.2.0.tgz: OK", self.run_line(self.checked)[1])
+        (self.room / "b-0.2.0.tgz").write_text("content", encoding="utf-8")
+        self.assertNotEqual(self.run_line(self.checked, "b-0.2.0.tgz")[0], 0)
+        (self.room / "a-0.2.0.tgz").write_text("another", encoding="utf-8")
+        self.assertNotEqual(self.run_line(self.checked)[0], 0)
+        (self.room / "SHA256SUMS").write_text(f"{hashlib.sha256(b'another').hexdigest()}  a-0.2.0.tgz\n", encoding="utf-8")
+        self.assertNotEqual(self.run_line(self.checked)[0], 0)
+
+    def test_forged_key(self):
+        """Whatever a release.pub holds, the fingerprint is that of the key with which the signature was verified."""
+        (owner, _), (other, fingerprint) = self.keys["owner"], self.keys["other"]
+        first, *inside, last = other.splitlines()
+        of_owner = "\n".join(owner.splitlines()[1:-1])
+        forged = {"the owner's text, then another key in one line": f"{of_owner}\n{first}\n{''.join(inside)}-----\n{last}\n",
+                  "the owner's text, a line, then another key": f"{of_owner}\n!\n{other}",
+                  "another key, then the owner's": other + owner, "the owner's key, then another": owner + other}
+        passed = []
+        for what, public in forged.items():
+            self.signed("other", public)
+            if self.run_line(self.checked)[0] == 0:
+                passed.append(what)
+                self.assertEqual(self.run_line(self.told), (0, f"{fingerprint}\n"), what)
+        # (else nothing was shown)
+        self.assertEqual(passed, list(forged)[:3])
 
 
 if __name__ == "__main__":
