@@ -241,7 +241,6 @@ def crate(facts, provenance):
     for path in command("git", "ls-files", "-z", "rust/fips204", cwd=TOP).split("\0"):
         if path:
             tree.take(path.removeprefix("rust/fips204/"), TOP / path)
-    tree.take("LICENSE", TOP / "LICENSE")
     # Who publishes it, if that is said.
     links = [f'{field} = "{said}"\n' for field, said in facts.links().items()]
     tree.put("Cargo.toml", re.sub(r"(?<=^\[package\]\n)", lambda _: "".join(links), manifest, flags=re.M))
