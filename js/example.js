@@ -1,4 +1,4 @@
-import { load } from "./out/mldsa.js";
+import { load } from "./mldsa.js";
 
 const { mlDsa65 } = await load();
 const { publicKey, privateKey } = mlDsa65.keygen();

@@ -1,5 +1,5 @@
 // The page verify.html: takes a file, a signature and a public key, and says whether the signature is valid.
-import { isSupported, loader } from "./core.js";
+import { isSupported, load } from "./inline.js";
 import { KeyFileError, fingerprint, readPublicKey } from "./keys.js";
 
 const SIGNATURE_LENGTHS = { 44: 2420, 65: 3309, 87: 4627 };
@@ -160,8 +160,8 @@ async function takeThree(library, files) {
     await update(library);
 }
 
-/** Makes the page do what it says, by a module in base64. */
-export function start(code) {
+/** Makes the page do what it says. */
+function start() {
     if (!isSupported()) {
         show("unknown", "No answer", [
             "This browser cannot run the check: its WebAssembly lacks bulk memory or sign extension. ",
@@ -172,7 +172,7 @@ export function start(code) {
         }
         return;
     }
-    const library = loader({ inside: code })();
+    const library = load();
     library.catch(() => {});
     for (const part of PARTS) {
         at(part).addEventListener("change", () => {
@@ -197,3 +197,5 @@ export function start(code) {
     });
     update(library);
 }
+
+start();

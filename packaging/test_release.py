@@ -27,8 +27,6 @@ RT = """#!/bin/sh
 echo 'rt was asked'
 exit 1
 """
-PUBLISHER = "homepage: https://a.example\nrepository: https://a.example/git\ncontact: A <a@a.example>\n" \
-            "flaws: a@a.example\nfingerprint: https://b.example\n"
 
 
 class Refusals(unittest.TestCase):
@@ -60,18 +58,27 @@ class Refusals(unittest.TestCase):
         self.command("git", "add", "-A")
         self.command("git", "-c", "user.name=A", "-c", "user.email=a@a.example", "commit", "-qm", "As it is here")
 
-    def planted(self, content=b"!<arch>\n"):
+    def fill_in(self, *names):
+        """What a publisher does."""
+        file = self.clone / "packaging/PUBLISHER"
+        said = file.read_text(encoding="utf-8")
+        for name in names:
+            said = re.sub(f"^{name}:$", f"{name}: a@a.example", said, flags=re.M)
+        file.write_text(said, encoding="utf-8")
+        self.commit()
+
+    def planted(self):
         """A file that stands where the library belongs."""
         file = self.clone / "out/archive/x86-64-v2/libmldsa_c.a"
         file.parent.mkdir(parents=True)
-        file.write_bytes(content)
+        (self.tools / "a.c").write_text("int mldsa_version(void) { return 1; }\n", encoding="utf-8")
+        self.command("gcc", "-c", "a.c", cwd=self.tools)
+        self.command("ar", "rcs", file, "a.o", cwd=self.tools)
         return file
 
     def test_blanks(self):
         """What only the publisher knows is asked for by name, and all else is made."""
-        without = PUBLISHER.replace("https://a.example\n", "\n")
-        (self.clone / "packaging/PUBLISHER").write_text(without, encoding="utf-8")
-        self.commit()
+        self.fill_in("repository", "contact", "flaws", "fingerprint")
         said = self.command("scripts/release")[1]
         self.assertIn("to fill in before it is signed: packaging/PUBLISHER has no homepage: the address of the project's page\n", said)
         self.assertEqual(re.findall("PUBLISHER has no (\\w+)", said), ["homepage"])
@@ -100,8 +107,7 @@ class Refusals(unittest.TestCase):
             shutil.rmtree(made)
 
     def test_of_a_new_clone(self):
-        (self.clone / "packaging/PUBLISHER").write_text(PUBLISHER, encoding="utf-8")
-        self.commit()
+        self.fill_in("homepage", "repository", "contact", "flaws", "fingerprint")
         self.planted()
         # In the checkout itself a release is not made,
         status, said = self.command("scripts/release", "--here")

@@ -1,9 +1,9 @@
-// The times of calls of js/out, over its module or over FILE: prints SET CALL NAME MICROSECONDS, the median of 301 calls.
+// The times of calls of js/, over its module or over FILE: prints SET CALL NAME MICROSECONDS, the median of 301 calls.
 //
 //     node times.js NAME [FILE]
 import { readFileSync } from "node:fs";
 
-import { load } from "../../js/out/mldsa.js";
+import { load } from "../../js/mldsa.js";
 
 const ROUNDS = 301;
 const [processor, file] = process.argv.slice(2);

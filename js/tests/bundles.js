@@ -1,17 +1,27 @@
-// The package of js/out as one that is installed, and bundles of it by esbuild.
+// The package as npm packs and installs it, and bundles of it by esbuild.
 import { spawnSync } from "node:child_process";
-import { copyFileSync, mkdirSync, writeFileSync } from "node:fs";
+import { writeFileSync } from "node:fs";
 import { join } from "node:path";
 import { fileURLToPath } from "node:url";
-import { text } from "./shared.js";
 
-/** Puts the package's files, and no others, where programs of a folder find it. */
+const QUIET = ["--offline", "--no-audit", "--no-fund", "--silent"];
+
+/** Has npm pack the package, and install what it packed in a folder: the names of the packed files; null where there is no npm. */
 export function installed(folder) {
-    const place = join(folder, "node_modules/mldsa");
-    mkdirSync(place, { recursive: true });
-    for (const name of ["package.json", ...JSON.parse(text("js/out/package.json")).files]) {
-        copyFileSync(fileURLToPath(new URL(`../out/${name}`, import.meta.url)), join(place, name));
+    const ran = (...words) => {
+        const { error, status, stdout, stderr } = spawnSync("npm", [...words, ...QUIET], { cwd: folder, encoding: "utf8" });
+        if (error?.code !== "ENOENT" && status !== 0) {
+            throw new Error(`npm ${words.join(" ")}: ${error ?? ""}${stdout}${stderr}`);
+        }
+        return error ? null : stdout;
+    };
+    const said = ran("pack", "--json", fileURLToPath(new URL("..", import.meta.url)));
+    if (said === null) {
+        return null;
     }
+    const [packed] = JSON.parse(said);
+    ran("install", join(folder, packed.filename));
+    return packed.files.map(({ path }) => path);
 }
 
 /** Bundles a script in a folder: the place of the bundle, and what esbuild said; null where there is no esbuild. */

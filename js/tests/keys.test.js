@@ -2,9 +2,9 @@
 import assert from "node:assert/strict";
 import { createHash } from "node:crypto";
 import test from "node:test";
-import { KeyFileError, fingerprint, readPrivateKey, readPublicKey, writePrivateKey, writePublicKey } from "../out/keys.js";
+import { KeyFileError, fingerprint, readPrivateKey, readPublicKey, writePrivateKey, writePublicKey } from "../keys.js";
 import { SEED, ofOpenssl, text, utf8 } from "./shared.js";
-import { MlDsaError, load } from "../out/mldsa.js";
+import { MlDsaError, load } from "../mldsa.js";
 
 const sets = await load();
 

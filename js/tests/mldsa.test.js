@@ -1,4 +1,4 @@
-// The calls, over the package of js/out.
+// The calls, over the files of js/.
 import assert from "node:assert/strict";
 import { webcrypto } from "node:crypto";
 import { readFileSync } from "node:fs";
@@ -6,12 +6,12 @@ import { spawnSync } from "node:child_process";
 import { fileURLToPath } from "node:url";
 import test from "node:test";
 import vm from "node:vm";
-import * as all from "../out/mldsa.js";
-import { readPublicKey } from "../out/keys.js";
+import * as all from "../mldsa.js";
+import { readPublicKey } from "../keys.js";
 import { SEED, hex, ofOpenssl, sha256, shake, text, utf8 } from "./shared.js";
 
 const { MlDsaError, isSupported, load, oids } = all;
-const place = new URL("../out/mldsa.wasm", import.meta.url);
+const place = new URL("../mldsa.wasm", import.meta.url);
 const code = readFileSync(place);
 const sets = await load();
 const ZEROS = new Uint8Array(32);

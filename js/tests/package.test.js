@@ -1,18 +1,22 @@
-// The package as programs see it: by name, by `import` and `require`, bundled by esbuild, and its types by tsc.
+// The package as programs see it that npm installed it for: by name, bundled by esbuild, and its types by tsc.
 import assert from "node:assert/strict";
 import { spawnSync } from "node:child_process";
 import { cpSync, mkdirSync, mkdtempSync, readFileSync, rmSync, writeFileSync } from "node:fs";
 import { tmpdir } from "node:os";
 import { dirname, join } from "node:path";
-import test, { after } from "node:test";
+import nodeTest, { after } from "node:test";
 import { fileURLToPath } from "node:url";
+import { CODE } from "../code.js";
 import { bundle, installed } from "./bundles.js";
 import { SEED, ofOpenssl, text } from "./shared.js";
 
 const room = mkdtempSync(join(tmpdir(), "mldsa-package-"));
 after(() => rmSync(room, { recursive: true, force: true }));
-const { files, engines } = JSON.parse(text("js/out/package.json"));
-installed(room);
+const { exports, engines } = JSON.parse(text("js/package.json"));
+const files = installed(room);
+
+/** A test of what npm installs. */
+const test = (name, tried) => nodeTest(name, { skip: files === null && "there is no npm" }, tried);
 
 /** Runs a program, and gives what it printed. */
 function ran(command, words, cwd = room) {
@@ -44,13 +48,23 @@ const BODY = `
 `;
 const WANTED = "true false true";
 const imported = (entry) => `import { load } from "${entry}";\nimport { readPublicKey } from "mldsa/keys";\n${BODY}`;
-const required = (entry) =>
-    `const { load } = require("${entry}");\nconst { readPublicKey } = require("mldsa/keys");\n${BODY}`;
 
-test("import and require, of the package and of the one with the module inside", () => {
+test("the package has what it names, and nothing else but its page, its licence and the types", () => {
+    const named = JSON.stringify(exports).match(/"\.\/[\w.]+"(?!:)/g).map((it) => JSON.parse(it).slice(2));
+    const types = ["mldsa", "inline", "keys"].map((name) => `${name}.d.ts`);
+    const others = ["LICENSE", "README.md", "code.js", "core.js", "engine.js", "package.json"];
+    assert.deepEqual([...files].sort(), [...new Set([...named, ...types, ...others])].sort());
+    assert.equal(text("js/LICENSE"), text("LICENSE"));
+    assert.ok(Number(process.versions.node.split(".")[0]) >= Number(engines.node.slice(2)));
+});
+
+nodeTest("code.js has the bytes of mldsa.wasm, or js/module --text writes it anew", () => {
+    assert.equal(CODE, readFileSync(new URL("../mldsa.wasm", import.meta.url)).toString("base64"));
+});
+
+test("import, of the package and of the one with the module inside", () => {
     for (const entry of ["mldsa", "mldsa/inline"]) {
         assert.equal(node("program.mjs", imported(entry)), WANTED);
-        assert.equal(node("program.cjs", required(entry)), WANTED);
         // As a test runner does that stands for a browser.
         assert.equal(node("program.mjs", imported(entry), "--conditions=browser"), WANTED);
     }
@@ -65,20 +79,32 @@ test("import and require, of the package and of the one with the module inside",
     assert.equal(node("place.mjs", place), "mlDsa44,mlDsa65,mlDsa87");
 });
 
-test("each way shows the same, and what the types declare", () => {
-    const names = '["mldsa", "mldsa/inline", "mldsa/keys"]';
-    const printed = (which, found) => `
-        for (const name of ${which}) {
-            const names = Object.keys(${found}).filter((it) => it !== "default" && it !== "module.exports");
-            console.log(names.sort().join());
+nodeTest("require, by a node that takes modules so", (t) => {
+    if (files === null || !process.features.require_module) {
+        t.skip("there is no npm, or require takes no module: node has that from 20.19 and 22.12 on");
+        return;
+    }
+    for (const entry of ["mldsa", "mldsa/inline"]) {
+        const source = `const { load } = require("${entry}");\nconst { readPublicKey } = require("mldsa/keys");\n${BODY}`;
+        assert.equal(node("program.cjs", source, "--no-warnings"), WANTED);
+    }
+});
+
+test("a folder that npm links", () => {
+    const linked = mkdtempSync(join(tmpdir(), "mldsa-linked-"));
+    after(() => rmSync(linked, { recursive: true, force: true }));
+    ran("npm", ["install", "--offline", "--silent", fileURLToPath(new URL("..", import.meta.url))], linked);
+    writeFileSync(join(linked, "program.mjs"), imported("mldsa"));
+    assert.equal(ran(process.execPath, ["program.mjs"], linked).trim(), WANTED);
+});
+
+test("each module shows what the types declare", () => {
+    const printed = `
+        for (const name of ["mldsa", "mldsa/inline", "mldsa/keys"]) {
+            console.log(Object.keys(await import(name)).sort().join());
         }
     `;
-    const byImport = node("names.mjs", printed(names, "await import(name)"));
-    assert.equal(node("names.cjs", printed(names, "require(name)")), byImport);
-    // Names of a module for require are found by import too.
-    const files = printed('["mldsa", "inline", "keys"]', "await import(`./node_modules/mldsa/${name}.cjs`)");
-    assert.equal(node("cjs.mjs", files), byImport);
-    const [ofPackage, ofInline, ofKeys] = byImport.split("\n");
+    const [ofPackage, ofInline, ofKeys] = node("names.mjs", printed).split("\n");
     assert.equal(ofPackage, "MlDsaError,isSupported,load,oids");
     assert.equal(ofInline, ofPackage);
     for (const [name, shown] of [["mldsa", ofPackage], ["keys", ofKeys]]) {
@@ -86,13 +112,6 @@ test("each way shows the same, and what the types declare", () => {
         assert.equal(declared.map((found) => found[1]).sort().join(), shown);
     }
     assert.match(text("js/inline.d.ts"), /^export \* from "\.\/mldsa\.js";$/m);
-});
-
-test("package.json names what there is, and this node is one that it wants", () => {
-    const { exports } = JSON.parse(text("js/out/package.json"));
-    const named = JSON.stringify(exports).match(/"\.\/[\w.]+"(?!:)/g).map((it) => JSON.parse(it).slice(2));
-    assert.deepEqual([...new Set(named)].filter((name) => name !== "package.json" && !files.includes(name)), []);
-    assert.ok(Number(process.versions.node.split(".")[0]) >= Number(engines.node.slice(2)));
 });
 
 /** Bundles by esbuild, where it is there. */
@@ -105,10 +124,8 @@ function bundled(t, name, source, ...flags) {
 }
 
 test("bundled by esbuild for node, with the module inside", (t) => {
-    const [esm, cjs] = [["esm", "mjs", imported], ["cjs", "cjs", imported]];
-    const kinds = [esm, cjs, ["cjs", "cjs", required], ["iife", "js", imported]];
-    for (const [format, ending, source] of kinds) {
-        const made = bundled(t, `bundle.${ending}`, source("mldsa/inline"), "--platform=node", `--format=${format}`);
+    for (const [format, ending] of [["esm", "mjs"], ["cjs", "cjs"], ["iife", "js"]]) {
+        const made = bundled(t, `bundle.${ending}`, imported("mldsa/inline"), "--platform=node", `--format=${format}`);
         if (made === null) {
             return;
         }
@@ -148,7 +165,7 @@ test("types, with old and new ways of finding them, and without those of the DOM
     mkdirSync(typed);
     cpSync(join(dirname(fileURLToPath(import.meta.url)), "types.ts"), join(typed, "types.ts"));
     for (const lib of [["es2020"], ["es2020", "dom"]]) {
-        const kinds = [["node", "commonjs"], ["node16", "node16", "commonjs"], ["node16", "node16", "module"]];
+        const kinds = [["node", "commonjs"], ["node16", "node16", "module"]];
         for (const [moduleResolution, module, type] of kinds) {
             const strict = { noEmit: true, strict: true, target: "es2020", types: [] };
             const compilerOptions = { ...strict, lib, module, moduleResolution };

@@ -2,13 +2,13 @@
 import assert from "node:assert/strict";
 import { createHash, webcrypto } from "node:crypto";
 import test from "node:test";
-import * as keys from "../out/keys.js";
-import * as all from "../out/mldsa.js";
+import * as keys from "../keys.js";
+import * as all from "../mldsa.js";
 import { ofOpenssl, text, utf8 } from "./shared.js";
 
 test("the example is a file, and prints that the signature is valid", async (t) => {
     const shown = text("js/README.md").match(/^```js\n(.*?)^```$/ms)[1];
-    assert.equal(shown.replace('"mldsa"', '"./out/mldsa.js"'), text("js/example.js"));
+    assert.equal(shown.replace('"mldsa"', '"./mldsa.js"'), text("js/example.js"));
     const printed = t.mock.method(console, "log", () => {});
     await import("../example.js");
     assert.deepEqual(printed.mock.calls.map((call) => call.arguments), [[true]]);
