@@ -123,8 +123,7 @@ class Tries(unittest.TestCase):
 
     @wants("cc", "pkg-config", "readelf")
     def test_x86(self):
-        """the archive for x86-64: a program in C, shared and static, where it is unpacked; mlsign, its page, and how both
-        are linked"""
+        """the archive for x86-64: a program in C, shared and static; mlsign, its page, and how both are linked"""
         top = self.unpacked("*-x86_64-linux.tar.gz")
         self.answers(*self.compiled("cc", *self.flags(top)), LD_LIBRARY_PATH=f"{top}/lib")
         self.answers(*self.compiled("cc", "-static", *self.flags(top, "--static")))
@@ -187,8 +186,7 @@ class Tries(unittest.TestCase):
             self.runs("lintian", "--fail-on", "error", "--allow-root", *packages)
 
     def test_check(self):
-        """the check that PROVENANCE tells, by OpenSSL and by mlsign, of one file that was taken; and what it says of changed
-        ones"""
+        """the check that PROVENANCE tells, by OpenSSL and by mlsign, of one file, and of changed ones"""
         page, function, path = (self.dist / "PROVENANCE").read_text(encoding="utf-8"), openssl(), f"{self.had}:{PATH}"
         shown = re.findall(r"^    (.*)", page.partition("Check a file")[2].partition("What the kit")[0], re.M)
         archive = self.dist / f"mldsa-{self.version}-x86_64-linux.tar.gz"
@@ -226,7 +224,7 @@ class Tries(unittest.TestCase):
 
     @wants("cc", "pkg-config")
     def test_readme(self):
-        """the lines of README under 'Getting it', in the folder of the files, and that all that they take is in the list"""
+        """the lines of README under 'Getting it', whose files are all in the list"""
         shown = [it.replace("FINGERPRINT", self.fingerprint) for it in lines((TOP / "README.md").read_text(encoding="utf-8"), "## Getting it\n")]
         listed = set(re.findall(r"^\w{64}  (.+)$", (self.dist / "SHA256SUMS").read_text(encoding="utf-8"), re.M))
         taken = set(re.findall(r"(?<=[\s/])[\w.-]+\.(?:tar\.gz|tgz|crate|whl|deb)", "\n".join(shown)))
