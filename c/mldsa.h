@@ -33,8 +33,7 @@
  * show to be out of reach.
  * They leave secrets on the stack below the caller's frame, and are not claimed to run in constant time.
  *
- * A program for each group of calls is among the examples and on the group's page of the manual: message.c, digest.c, pieces.c,
- * keys.c, prepared.c and der.c.
+ * A program for each group of calls is among the examples: message.c, digest.c, pieces.c, keys.c, prepared.c and der.c.
  *
  * A set's calls are these, with its number in the name (mldsa44_keygen, mldsa65_keygen, mldsa87_keygen). Behind each stand
  * the results that it has beside 0 and MLDSA_WRONG_LENGTH. No input is known to return MLDSA_SAMPLING_LIMIT.

@@ -20,7 +20,7 @@ list-check: ; @echo $(CHECK) $(TEST)
 tools: ; $(step) -- scripts/tools
 definitions: ; $(step) -- tools/definitions/run --short
 pages: ; $(step) -- scripts/pages
-installs: ; $(step) -- packaging/test_install.py
+installs: library ; $(step) cc make -- packaging/test_install.py
 tokens: ; $(step) -- tools/tokens
 erased: tools ; $(step) cargo -- tools/erase --check
 erasing: tools ; $(step) cargo -- tools/test_erase.py
@@ -39,7 +39,7 @@ js: tools ; $(step) node -- js/test --package
 js-page: tools ; $(step) node -- js/test --page
 python: library ; $(step) cargo -- $(python) python/test --processor rust
 lint: tools ; $(step) -- scripts/lint
-refusals: tools ; $(step) git -- packaging/test_release.py
+refusals: tools ; $(step) git gcc -- packaging/test_release.py
 
 # What `rt check` left goes first, since `rt ci` puts it back in the place of what it proved itself.
 proof: ; @scripts/gate --step $@ '' -- sh -c 'rm -rf crates/*/out/rlib && exec rt ci'
@@ -66,5 +66,4 @@ ledger: archives ; $(step) gcc readelf -- $(python) examples/ledger/test
 mlsign: proof tools-check ; $(step) cc -- scripts/mlsign-program
 mlsign-edges: proof tools-check ; $(step) cc -- scripts/mlsign-edges
 examples: proof ; $(step) -- examples/test
-packages: archives ; $(step) gcc objcopy readelf strip dpkg-deb pandoc wasm-opt aarch64-linux-gnu-gcc -- \
-	$(python) scripts/release --try --short
+packages: archives ; $(step) -- $(python) scripts/release --try --short
