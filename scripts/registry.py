@@ -14,7 +14,8 @@ import sys
 TOP = pathlib.Path(__file__).resolve().parent.parent
 REGISTRY = pathlib.Path("/usr/share/cargo/registry")
 CRATES = {"rand_core-0.6": "rand-core", "zeroize-1": "zeroize", "getrandom-0.2": "getrandom", "sha2-0.10": "sha2",
-          "base64-0.13": "base64", "hex-0.4": "hex", "rand_chacha-0.3": "rand-chacha", "thiserror-1": "thiserror"}
+          "base64-0.13": "base64", "hex-0.4": "hex", "rand_chacha-0.3": "rand-chacha", "thiserror-1": "thiserror",
+          "clap-4": "clap", "either-1": "either"}
 
 
 def lacking():
@@ -45,21 +46,28 @@ def install(names):
             print(f"apt-get {command[0]}: {done.stderr.strip()[-300:]}", file=sys.stderr)
 
 
+def words_of_debian(workspace):
+    """The words by which cargo takes Debian's crates, if it finds each that a workspace names."""
+    words = ["--offline", "--config", 'source.crates-io.replace-with="debian"',
+             "--config", f'source.debian.directory="{REGISTRY}"']
+    if workspace == TOP and not any(REGISTRY.glob("signature-2.*")):
+        words += ["--config", f'patch.crates-io.signature.path="{TOP}/rust/signature"']
+    return words if REGISTRY.is_dir() and resolves(workspace, *words) else []
+
+
 @functools.cache
 def cargo_words(workspace=TOP):
     """The words for a workspace, or none where nothing helps."""
     if resolves(workspace):
         return ()
-    if (absent := lacking()) and os.geteuid() == 0:
+    words = words_of_debian(workspace)
+    if not words and (absent := lacking()) and os.geteuid() == 0:
         install(absent)
-    if absent := lacking():
-        print(f"cargo has no registry, and Debian's crates are not there: apt-get install {' '.join(packages(absent))}",
-              file=sys.stderr)
+        words = words_of_debian(workspace)
+    if not words:
+        print("cargo has no registry, and Debian's crates are not all there: apt-get install "
+              f"{' '.join(packages(CRATES.values()))}", file=sys.stderr)
         return ()
-    words = ["--offline", "--config", 'source.crates-io.replace-with="debian"',
-             "--config", f'source.debian.directory="{REGISTRY}"']
-    if workspace == TOP and not any(REGISTRY.glob("signature-2.*")):
-        words += ["--config", f'patch.crates-io.signature.path="{TOP}/rust/signature"']
     print(f"cargo has no registry: it takes Debian's packages in {REGISTRY}, and Cargo.lock names these; delete that "
           "file before cargo takes crates from elsewhere", file=sys.stderr)
     return tuple(words)

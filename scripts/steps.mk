@@ -5,10 +5,10 @@ step = @nice -n 5 scripts/gate --step $@ '$^'
 python = flock out/python.lock
 
 # Without the kit, over what cargo builds: what others wait for, and then the longest first.
-TEST = tools library definitions rust rust-others programs lint c-gcc c-clang c-sanitized js erasing python \
-	vectors-wasm vectors-rust vectors-c refusals pages js-page erased tokens installs
+TEST = tools library definitions rust rust-others programs mlsign-rust lint c-gcc c-clang c-sanitized js erasing python \
+	vectors-wasm vectors-rust vectors-c vectors-mlsign refusals pages js-page erased tokens installs
 # With the kit: `rt ci`, and what is native, over what it left.
-CHECK = proof tools-check archives secrets ledger mlsign mlsign-edges native-c native-c-v3 native-c-aarch64 native-c-musl \
+CHECK = proof tools-check archives secrets ledger mlsign native-c native-c-v3 native-c-aarch64 native-c-musl \
 	native-c-clang native-c-sanitized native-c-valgrind native-python native-vectors-v2 native-vectors-v3 \
 	native-vectors-aarch64 native-vectors-mlsign rust-aarch64 c-valgrind secrets-rust module examples packages
 .PHONY: $(TEST) $(CHECK) list-test list-check
@@ -33,6 +33,8 @@ c-clang: library ; $(step) clang clang++ nm -- env CC=clang CXX=clang++ c/test -
 c-sanitized: library ; $(step) gcc -- c/test --processor rust --sanitize
 c-valgrind: library ; $(step) gcc valgrind -- c/test --processor rust --valgrind
 vectors-c: library ; $(step) gcc -- vectors/run c rust
+mlsign-rust: tools ; $(step) cargo cc -- tests/mlsign/run --rust
+vectors-mlsign: mlsign-rust ; $(step) -- vectors/run mlsign out/cargo/release/mlsign
 vectors-rust: tools ; $(step) cargo -- vectors/run rust
 vectors-wasm: tools ; $(step) node -- vectors/run wasm
 js: tools ; $(step) node -- js/test --package
@@ -63,7 +65,7 @@ rust-aarch64: tools-check ; $(step) cargo -- rust/test --processor aarch64
 secrets: archives ; $(step) gcc valgrind -- bench/secrets/run
 secrets-rust: library ; $(step) gcc valgrind -- bench/secrets/run --rust
 ledger: archives ; $(step) gcc readelf -- $(python) examples/ledger/test
-mlsign: proof tools-check ; $(step) cc -- scripts/mlsign-program
-mlsign-edges: proof tools-check ; $(step) cc -- scripts/mlsign-edges
+# (beside the other, where both are there)
+mlsign: proof tools-check mlsign-rust ; $(step) cc -- tests/mlsign/run
 examples: proof ; $(step) -- examples/test
 packages: archives ; $(step) -- $(python) scripts/release --try --short

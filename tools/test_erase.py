@@ -131,12 +131,13 @@ class Copy(unittest.TestCase):
         room = tempfile.TemporaryDirectory()
         self.addCleanup(room.cleanup)
         self.top, self.environment = pathlib.Path(room.name), dict(os.environ)
-        for name in (*erase.LIBRARY, *erase.HOSTED):
+        for name in {*erase.LIBRARY, *erase.HOSTED, *erase.MLSIGN}:
             shutil.copytree(TOP / "crates" / name / "src", self.top / "crates" / name / "src")
         for name in ("tools/erase", "crates.txt", erase.MADE[1]):
             (self.top / name).parent.mkdir(parents=True, exist_ok=True)
             shutil.copy(TOP / name, self.top / name)
-        shutil.copytree(TOP / erase.MADE[0], self.top / erase.MADE[0])
+        for name in erase.MADE[::2]:
+            shutil.copytree(TOP / name, self.top / name)
 
     def says(self, word="--check"):
         """The status of the script and what it prints."""

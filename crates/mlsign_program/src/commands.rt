@@ -15,7 +15,7 @@ use crate::files::{STANDARD, metadata, note_read};
 use crate::keyfile::{KeyFile, form, form_of, set_of, word};
 use crate::places::{Content, FileId, Output, Target, write_pair};
 use crate::progress::Progress;
-use crate::text::{about, printable};
+use crate::text::about;
 use anyhow::{Context, Error, bail};
 use base64::engine::general_purpose::STANDARD_NO_PAD;
 use clap::ArgMatches;

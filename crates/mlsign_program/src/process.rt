@@ -11,10 +11,9 @@ use crate::words::mlsign;
 use anyhow::{Context, Error, bail};
 use std::alloc::{AllocError, Global};
 use std::convert::AsStr;
-use std::env::Env;
-use std::io::ErrorKind;
+use std::env::{self, Env};
+use std::io::{self, ErrorKind};
 use std::process::ExitCode;
-use std::{env, io};
 
 /// Runs the call that the words of the process make. The exit status is 0 if it was done, or all signatures are valid; 1 if a
 /// signature is invalid; and 2 for anything else. In these two cases a line on standard error says which.

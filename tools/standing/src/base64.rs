@@ -16,37 +16,62 @@ impl From<AllocError> for DecodeAllocError {
     }
 }
 
-/// Base64 with padding.
-pub struct Standard;
+/// Base64, with padding or without.
+pub struct Standard {
+    padded: bool,
+}
 
 pub mod engine {
     pub mod general_purpose {
-        pub const STANDARD: crate::base64::Standard = crate::base64::Standard;
+        use crate::base64::Standard;
+
+        pub const STANDARD: Standard = Standard { padded: true };
+        pub const STANDARD_NO_PAD: Standard = Standard { padded: false };
     }
 }
 
 impl Standard {
+    fn config(&self) -> base64::Config {
+        if self.padded {
+            base64::STANDARD
+        } else {
+            base64::STANDARD_NO_PAD
+        }
+    }
+
     pub fn encode(&self, alloc: Global, bytes: &[u8]) -> Result<String, AllocError> {
         let size = bytes.len().div_ceil(3).checked_mul(4).ok_or(AllocError)?;
         let mut room = Vec::filled(alloc, 0, size)?;
-        base64::encode_config_slice(bytes, base64::STANDARD, &mut room);
-        String::from_utf8_lossy(alloc, &room)
+        let length = base64::encode_config_slice(bytes, self.config(), &mut room);
+        String::from_utf8_lossy(alloc, &room[..length])
     }
 
-    /// The bytes of a text, which has to be as `encode` gives it. (The crate takes one without its padding too.)
+    /// The bytes of a text, which has to be as `encode` gives it. (The crate takes one with other padding too.)
     pub fn decode(&self, alloc: Global, text: &[u8]) -> Result<Vec<u8>, DecodeAllocError> {
         let mut room = Vec::filled(alloc, 0, text.len().div_ceil(4).saturating_mul(3))?;
-        match base64::decode_config_slice(text, base64::STANDARD, &mut room) {
-            Ok(length) if text.len().is_multiple_of(4) => {
-                Ok(Vec::from_slice(alloc, &room[..length])?)
-            }
+        let right = match self.padded {
+            true => text.len().is_multiple_of(4),
+            false => !text.ends_with(b"="),
+        };
+        match base64::decode_config_slice(text, self.config(), &mut room) {
+            Ok(length) if right => Ok(Vec::from_slice(alloc, &room[..length])?),
             _ => Err(DecodeAllocError::DecodeError(())),
         }
+    }
+
+    /// The same into a place, and how many bytes they are.
+    pub fn decode_slice(&self, text: &[u8], out: &mut [u8]) -> Result<usize, DecodeAllocError> {
+        let bytes = self.decode(Global, text)?;
+        let room = out.get_mut(..bytes.len());
+        room.ok_or(DecodeAllocError::DecodeError(()))?
+            .copy_from_slice(&bytes);
+        Ok(bytes.len())
     }
 }
 
 #[cfg(test)]
 mod tests {
+    use super::engine::general_purpose::{STANDARD, STANDARD_NO_PAD};
     use super::*;
 
     /// The examples of RFC 4648, section 10.
@@ -62,12 +87,23 @@ mod tests {
 
     #[test]
     fn encodes_and_decodes() {
-        for (plain, text) in EXAMPLES {
-            let encoded = Standard.encode(Global, plain.as_bytes());
-            assert_eq!(encoded.unwrap().as_str(), text);
-            let decoded = Standard.decode(Global, text.as_bytes());
-            assert_eq!(decoded.unwrap().as_slice(), plain.as_bytes());
+        for (plain, padded) in EXAMPLES {
+            let (bare, bytes) = (padded.trim_end_matches('='), plain.as_bytes());
+            for (form, text) in [(STANDARD, padded), (STANDARD_NO_PAD, bare)] {
+                assert_eq!(form.encode(Global, bytes).unwrap().as_str(), text);
+                let decoded = form.decode(Global, text.as_bytes());
+                assert_eq!(decoded.unwrap().as_slice(), bytes);
+                let mut room = [0; 6];
+                let length = form.decode_slice(text.as_bytes(), &mut room).unwrap();
+                assert_eq!(room[..length], *bytes);
+            }
         }
+    }
+
+    #[test]
+    fn a_place_may_be_too_small() {
+        let found = STANDARD.decode_slice(b"Zm9vYg==", &mut [0; 3]);
+        assert_eq!(found, Err(DecodeAllocError::DecodeError(())));
     }
 
     #[test]
@@ -76,7 +112,11 @@ mod tests {
             "Zg", "Zg=", "Zm8", "Zh==", "Zm9=", "Zg==Zg==", "Zm9v\n", "Z", "=", "====", "Z===",
             "Zm=v", "Zm9v====", "Zm9-",
         ] {
-            let decoded = Standard.decode(Global, text.as_bytes());
+            let decoded = STANDARD.decode(Global, text.as_bytes());
+            assert_eq!(decoded, Err(DecodeAllocError::DecodeError(())), "{text}");
+        }
+        for text in ["Zg=", "Zg==", "Zm8=", "Zh", "Zm9", "Z", "=", "Zm9vY", "Zm9v="] {
+            let decoded = STANDARD_NO_PAD.decode(Global, text.as_bytes());
             assert_eq!(decoded, Err(DecodeAllocError::DecodeError(())), "{text}");
         }
     }

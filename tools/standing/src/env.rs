@@ -1,7 +1,7 @@
 //! For `std::env`: the words of a call.
 
 use crate::alloc::{AllocError, AllocGlobal};
-use crate::rt::Env;
+pub use crate::rt::Env;
 use crate::string::String;
 use crate::vec::Vec;
 use std::{io, vec};

@@ -1,6 +1,7 @@
 //! For `std::io`: Rust's, with a `BufReader` whose memory is asked of an allocator.
 
 use crate::alloc::Global;
+pub use crate::rt::Descriptor as Stdin;
 pub use std::io::*;
 
 pub struct BufReader<R>(std::io::BufReader<R>);

@@ -3,12 +3,13 @@
 use crate::alloc::AllocGlobal;
 use crate::env::FillError;
 use std::ffi::OsString;
-use std::fmt::Display;
+use std::fmt::{self, Display};
 use std::fs::File;
 use std::io::{self, BufReader, Read, Write};
-use std::os::fd::AsFd;
+use std::os::fd::{AsFd, AsRawFd};
 use std::os::unix::ffi::OsStrExt;
 use std::sync::OnceLock;
+use std::sync::atomic::{AtomicBool, Ordering};
 
 /// The process.
 #[derive(Clone, Copy)]
@@ -70,28 +71,72 @@ impl<E: Env> Env for (E, crate::alloc::Global) {
     }
 }
 
+// (in one piece, so that lines of several processes do not mix)
 impl Eprint for HostRuntime {
     fn eprint<D: Display>(&self, value: D) -> io::Result<()> {
-        write!(io::stderr().lock(), "{value}")
+        io::stderr().write_all(value.to_string().as_bytes())
     }
 
     fn eprintln<D: Display>(&self, value: D) -> io::Result<()> {
-        writeln!(io::stderr().lock(), "{value}")
+        self.eprint(format_args!("{value}\n"))
     }
 }
 
+/// For `println!(rt; ..)`: the line is written at once.
+#[macro_export]
+macro_rules! try_println {
+    ($rt:expr; $($format:tt)*) => {
+        $rt.print_line(::core::format_args!($($format)*))
+    };
+}
+
+/// Whether each standard descriptor was closed when the process began.
+static CLOSED: [AtomicBool; 3] = [const { AtomicBool::new(false) }; 3];
+
+/// Rust's own start opens /dev/null in the place of a standard descriptor that is closed, and what is written there would be
+/// lost with status 0: so it is looked before that. A file gets the lowest number that is free.
+extern "C" fn look() {
+    let Ok(file) = File::open("/dev/null") else {
+        return;
+    };
+    if let Some(closed) = CLOSED.get(file.as_raw_fd() as usize) {
+        closed.store(true, Ordering::Relaxed);
+        look();
+    }
+}
+
+// What the system calls before the start of Rust. It is unsafe to place something there that is no function of C.
+#[cfg(target_os = "linux")]
+#[allow(unsafe_code)]
+#[used]
+#[unsafe(link_section = ".init_array")]
+static LOOK: extern "C" fn() = look;
+
+/// The number of the error of a descriptor that is closed, `EBADF`.
+const BAD_DESCRIPTOR: i32 = 9;
+
 /// A descriptor of the process, of which nothing is kept back: what is read is what is asked for, and what is written is
-/// written at once. Rust's own `stdin` reads ahead, and its `stdout` holds back. (One that is closed is /dev/null here, since
-/// Rust opens that before `main`.)
+/// written at once. Rust's own `stdin` reads ahead, and its `stdout` holds back.
 pub struct Descriptor(io::Result<File>);
 
 impl Descriptor {
     fn of<D: AsFd>(given: D) -> Descriptor {
-        Descriptor(given.as_fd().try_clone_to_owned().map(File::from))
+        let fd = given.as_fd();
+        let closed = CLOSED.get(fd.as_raw_fd() as usize);
+        Descriptor(if closed.is_some_and(|it| it.load(Ordering::Relaxed)) {
+            Err(io::Error::from_raw_os_error(BAD_DESCRIPTOR))
+        } else {
+            fd.try_clone_to_owned().map(File::from)
+        })
     }
 
     fn file(&mut self) -> io::Result<&mut File> {
-        self.0.as_mut().map_err(|error| error.kind().into())
+        self.0
+            .as_mut()
+            .map_err(|error| match error.raw_os_error() {
+                Some(number) => io::Error::from_raw_os_error(number),
+                None => error.kind().into(),
+            })
     }
 }
 
@@ -117,14 +162,27 @@ fn reader_of<D: AsFd>(given: D) -> BufReader<Descriptor> {
 }
 
 impl HostRuntime {
-    /// Standard input.
+    /// Standard input, a line after the other.
     pub fn reader(&self) -> BufReader<Descriptor> {
         reader_of(io::stdin())
+    }
+
+    pub fn stdin(&self) -> Descriptor {
+        Descriptor::of(io::stdin())
     }
 
     /// Standard output.
     pub fn stdout(&self) -> Descriptor {
         Descriptor::of(io::stdout())
+    }
+
+    pub fn stderr(&self) -> io::Stderr {
+        io::stderr()
+    }
+
+    /// What `println!(rt; ..)` calls.
+    pub fn print_line(&self, line: fmt::Arguments<'_>) -> io::Result<()> {
+        self.stdout().write_all(format!("{line}\n").as_bytes())
     }
 }
 

@@ -54,16 +54,17 @@ impl<T: Clone> Vec<T> {
     }
 }
 
+// (to a `Vec` of Rust, so that it can be read to the end of a file)
 impl<T> ops::Deref for Vec<T> {
-    type Target = [T];
+    type Target = vec::Vec<T>;
 
-    fn deref(&self) -> &[T] {
+    fn deref(&self) -> &vec::Vec<T> {
         &self.0
     }
 }
 
 impl<T> ops::DerefMut for Vec<T> {
-    fn deref_mut(&mut self) -> &mut [T] {
+    fn deref_mut(&mut self) -> &mut vec::Vec<T> {
         &mut self.0
     }
 }
