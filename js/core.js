@@ -1,7 +1,7 @@
 // ML-DSA (FIPS 204) at the parameter sets 44, 65 and 87, over a WebAssembly module whose source is proved (docs/SPEC.md).
 // This file is ordinary JavaScript over it: it copies arrays into the module's memory and back, and is tested, not
 // proved. It says nothing of where the module is: that do mldsa.js and inline.js.
-import { atMost, bytesOf, isNode, ofNode, webCrypto } from "./engine.js";
+import { atMost, bytesIn, isNode, ofNode, webCrypto } from "./engine.js";
 
 /** The lengths of a set's arrays in bytes. */
 const LENGTHS = {
@@ -198,7 +198,7 @@ const NOTHING = new Uint8Array(0);
 
 /** The bytes of an array, if it is one of bytes, and has its length where it is to have one. */
 function bytes(name, value, length) {
-    const found = bytesOf(value);
+    const found = bytesIn(value);
     if (found === undefined) {
         throw new TypeError(`${name} is not a Uint8Array`);
     }

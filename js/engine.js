@@ -20,7 +20,7 @@ const [tagOf, bufferOf, placeOf, lengthOf] = [Symbol.toStringTag, "buffer", "byt
 
 /** The bytes of a Uint8Array, of this realm or another, where they are; undefined of any other value. Asks the engine,
  * since properties of the array's own may say something else, as a length that is not its length. */
-export function bytesOf(value) {
+export function bytesIn(value) {
     if (tagOf.call(value) !== "Uint8Array") {
         return undefined;
     }

@@ -1,7 +1,7 @@
 // Keys in files, as `mlsign` and OpenSSL write them: PEM in the strict form of RFC 7468, around the DER that the library
 // reads and writes (RFC 9881). What is read has one spelling: another text, however near, is rejected, and by the
 // sentences of `mlsign` but where what was found is named.
-import { atMost, bytesOf, webCrypto } from "./engine.js";
+import { atMost, bytesIn, webCrypto } from "./engine.js";
 
 const PUBLIC = "PUBLIC KEY";
 const PRIVATE = "PRIVATE KEY";
@@ -28,7 +28,7 @@ function checkReading(call, words) {
     if (!NUMBERS.every((it) => sets?.[`mlDsa${it}`]?.name === `ML-DSA-${it}`)) {
         throw new TypeError("sets is not what load gives: await load()");
     }
-    const file = typeof given === "string" ? given : bytesOf(given);
+    const file = typeof given === "string" ? given : bytesIn(given);
     if (file === undefined) {
         throw new TypeError("file is neither a Uint8Array nor a string");
     }
@@ -42,7 +42,7 @@ function checkWriting(call, words, name) {
     if (!NUMBERS.some((it) => mlDsa?.name === `ML-DSA-${it}`)) {
         throw new TypeError("mlDsa is not a parameter set, as mlDsa65");
     }
-    const key = bytesOf(given);
+    const key = bytesIn(given);
     if (key === undefined) {
         throw new TypeError(`${name} is not a Uint8Array`);
     }
