@@ -5,7 +5,7 @@ step = @nice -n 5 scripts/gate --step $@ '$^'
 python = flock out/python.lock
 
 # Without the kit, over what cargo builds: what others wait for, and then the longest first.
-TEST = tools library definitions rust rust-others programs lint c-gcc c-clang c-sanitized js erasing python \
+TEST = tools library definitions rust rust-others programs lint fuzzers c-gcc c-clang c-sanitized js erasing python \
 	vectors-wasm vectors-rust vectors-c refusals pages js-page erased tokens installs
 # With the kit: `rt ci`, and what is native, over what it left.
 CHECK = proof tools-check archives secrets ledger mlsign mlsign-edges native-c native-c-v3 native-c-aarch64 native-c-musl \
@@ -31,6 +31,7 @@ library: tools ; $(step) cargo -- scripts/archive rust
 c-gcc: library ; $(step) gcc g++ nm -- c/test --processor rust
 c-clang: library ; $(step) clang clang++ nm -- env CC=clang CXX=clang++ c/test --processor rust
 c-sanitized: library ; $(step) gcc -- c/test --processor rust --sanitize
+fuzzers: tools ; $(step) cargo clang -- c/fuzz/run
 c-valgrind: library ; $(step) gcc valgrind -- c/test --processor rust --valgrind
 vectors-c: library ; $(step) gcc -- vectors/run c rust
 vectors-rust: tools ; $(step) cargo -- vectors/run rust

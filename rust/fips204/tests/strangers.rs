@@ -127,7 +127,6 @@ macro_rules! tests_of_a_set {
                     let plain = damaged.replace("\r\n", "\n");
                     if let Ok(read) = PublicKey::from_pem(&damaged) {
                         assert_eq!(read.to_pem().unwrap(), plain, "seed {}", draws.seed);
-                        assert_eq!(read, public, "seed {}", draws.seed);
                     }
                     if let Ok(seed) = PrivateKey::seed_from_pem(&damaged) {
                         assert_eq!(
