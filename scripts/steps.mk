@@ -10,7 +10,7 @@ TEST = tools library definitions rust rust-others programs lint fuzzers c-gcc c-
 # With the kit: `rt ci`, and what is native, over what it left.
 CHECK = proof tools-check archives secrets ledger mlsign mlsign-edges native-c native-c-v3 native-c-aarch64 native-c-musl \
 	native-c-clang native-c-sanitized native-c-valgrind native-python native-vectors-v2 native-vectors-v3 \
-	native-vectors-aarch64 native-vectors-mlsign rust-aarch64 c-valgrind secrets-rust module examples packages
+	native-vectors-aarch64 native-vectors-mlsign native-fuzzers rust-aarch64 c-valgrind secrets-rust module examples packages
 .PHONY: $(TEST) $(CHECK) list-test list-check
 
 list-test: ; @echo $(TEST)
@@ -59,6 +59,7 @@ native-python: archives ; $(step) gcc -- $(python) python/test --processor x86-6
 native-vectors-v2: archives ; $(step) gcc -- vectors/run c x86-64-v2
 native-vectors-v3: archives ; $(step) gcc -- vectors/run c x86-64-v3
 native-vectors-aarch64: archives ; $(step) aarch64-linux-gnu-gcc qemu-aarch64 -- vectors/run c aarch64
+native-fuzzers: archives fuzzers ; $(step) clang -- c/fuzz/run --native
 native-vectors-mlsign: proof ; $(step) -- vectors/run mlsign
 rust-aarch64: tools-check ; $(step) cargo -- rust/test --processor aarch64
 secrets: archives ; $(step) gcc valgrind -- bench/secrets/run
