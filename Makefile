@@ -4,6 +4,8 @@ LIBDIR = $(PREFIX)/lib
 INSTALL = install
 # The library, by a word of scripts/archive: rust, a target of rustc for another processor, or x86-64 and aarch64 of the kit.
 LIBRARY = rust
+# How long `make fuzz` runs a target.
+SECONDS = 600
 
 build:
 	@scripts/archive $(LIBRARY)
@@ -14,6 +16,7 @@ help:
 	@echo 'make uninstall PREFIX=/DIR  take that out again'
 	@echo 'make run                    build the program mldsa of the proved source, and run it: half a minute'
 	@echo 'make test                   every test that needs no proof: 7 minutes'
+	@echo 'make fuzz SECONDS=N         what strangers give C, Rust and Python, N seconds a target, by default $(SECONDS)'
 	@echo 'make check                  make test, and with the Rattle kit each proof and mutation, and the tests of what it builds: 2 hours'
 	@echo 'make release                make the packages, with the kit, in dist/: 2 hours, then 5 minutes'
 
@@ -26,10 +29,15 @@ test:
 check:
 	@scripts/gate check
 
+fuzz:
+	c/fuzz/run --seconds $(SECONDS)
+	FUZZ_SECONDS=$(SECONDS) cargo test --release --package corkaife-fips204 $$(scripts/registry.py) --test strangers
+	FUZZ_SECONDS=$(SECONDS) python/test --processor rust
+
 release:
 	scripts/release
 
 include scripts/steps.mk
 include packaging/install.mk
 
-.PHONY: build help run test check release
+.PHONY: build help run test fuzz check release

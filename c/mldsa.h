@@ -93,9 +93,10 @@
  *                      MLDSA_INCONSISTENT, MLDSA_SAMPLING_LIMIT; both_to_der: MLDSA_SAMPLING_LIMIT]
  *  private_key_from_der, seed_from_der
  *                      read a private key in any of the three forms, of any length, and write the expanded key, or the seed where
- *                      there is one. Rejected is an expanded key that the seed beside it does not generate, or to which is_pair,
- *                      where it is alone, does not say yes. To load a key, ask for its seed, and where the result is MLDSA_NO_SEED
- *                      for its expanded key; where the set is not known, ask at each as long as the result is MLDSA_OTHER_SET.
+ *                      there is one. Rejected is an expanded key that the seed beside it does not generate; and by
+ *                      private_key_from_der one that is alone, to which is_pair does not say yes: seed_from_der does not look at
+ *                      it. To load a key, ask for its seed, and where the result is MLDSA_NO_SEED for its expanded key; where the
+ *                      set is not known, ask at each as long as the result is MLDSA_OTHER_SET.
  *                      [private_key_from_der: MLDSA_DER_CUT_SHORT, MLDSA_DER_TRAILING, MLDSA_DER_DAMAGED, MLDSA_DER_VERSION,
  *                      MLDSA_DER_ALGORITHM, MLDSA_DER_KEY_LENGTH, MLDSA_OTHER_SET, MLDSA_INCONSISTENT, MLDSA_SAMPLING_LIMIT;
  *                      seed_from_der: MLDSA_NO_SEED too]

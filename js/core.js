@@ -1,7 +1,7 @@
 // ML-DSA (FIPS 204) at the parameter sets 44, 65 and 87, over a WebAssembly module whose source is proved (docs/SPEC.md).
 // This file is ordinary JavaScript over it: it copies arrays into the module's memory and back, and is tested, not
 // proved. It says nothing of where the module is: that do mldsa.js and inline.js.
-import { atMost, isBytes, isNode, ofNode, webCrypto } from "./engine.js";
+import { atMost, bytesIn, isNode, ofNode, webCrypto } from "./engine.js";
 
 /** The lengths of a set's arrays in bytes. */
 const LENGTHS = {
@@ -23,6 +23,10 @@ const AT_ONCE = 1 << 20;
 const DONE = 0;
 const NO = 1;
 const WRONG_LENGTH = 2;
+const BROKEN_STATE = 16;
+
+/** MLDSA_VERSION of c/mldsa.h. */
+const VERSION = 0x000200;
 
 /** What a status means that is neither done, nor yes or no: the texts of c/mldsa.h. */
 const TEXTS = {
@@ -36,7 +40,7 @@ const TEXTS = {
     13: "ML-DSA.Sign: too many attempts",
     14: "Alg 25: s1 or s2 out of range",
     15: "sampling limit reached",
-    16: "the state of a message in pieces is broken",
+    [BROKEN_STATE]: "the state of a message in pieces is broken",
     17: "no call has written this prepared key",
     18: "its DER is cut short",
     19: "more follows behind the end of its DER",
@@ -109,17 +113,32 @@ export const oids = Object.freeze(
 
 /** The module's memory and calls. Calls run one after the other, and each leaves the memory as it was at first. */
 class Library {
+    #module;
     #exports;
     #memory;
     #heap;
     #begin;
     #constants;
+    /** Whether the last call was cut off, as where the engine's stack ends. The module's stack pointer is then where it
+     * was in that call, and its memory may not be wiped: such an instance takes no further call. */
+    #isBroken = false;
 
-    constructor(instance, random) {
+    constructor(module, instance, random) {
         this.random = random;
-        this.#exports = instance.exports;
-        this.#memory = instance.exports.memory;
-        this.#heap = Number(instance.exports.__heap_base.value);
+        this.#module = module;
+        this.#take(instance);
+        const found = instance.exports.mldsa_version?.();
+        if (found >>> 8 !== VERSION >>> 8 || found < VERSION) {
+            const text = [VERSION >>> 16, (VERSION >>> 8) & 255, VERSION & 255].join(".");
+            throw new Error(`the module is not mldsa.wasm of version ${text}, or a later one with the same calls`);
+        }
+    }
+
+    /** Takes an instance that no call has used. */
+    #take({ exports }) {
+        this.#exports = exports;
+        this.#memory = exports.memory;
+        this.#heap = Number(exports.__heap_base.value);
         // Below the heap lie the stack, which is all zeros at first, and the module's constants.
         const first = new Uint8Array(this.#memory.buffer, 0, this.#heap);
         const begin = first.findIndex((byte) => byte !== 0);
@@ -130,6 +149,11 @@ class Library {
     /** Makes a call with arrays that it reads, and then those that it writes: of these the lengths, or the bytes that
      * are there before. Gives its status and what it wrote. Each array lies above the module's own memory. */
     call(name, read, written) {
+        if (this.#isBroken) {
+            new Uint8Array(this.#memory.buffer).fill(0);
+            this.#take(new WebAssembly.Instance(this.#module, {}));
+            this.#isBroken = false;
+        }
         const lengths = [...read, ...written].map((it) => (typeof it === "number" ? it : it.length));
         const places = [];
         let end = this.#heap;
@@ -139,17 +163,21 @@ class Library {
         }
         this.#reach(end);
         const memory = new Uint8Array(this.#memory.buffer, 0, end);
+        this.#isBroken = true;
+        let answered;
         try {
             [...read, ...written].forEach((it, i) => typeof it === "number" || memory.set(it, places[i]));
             const words = lengths.flatMap((length, i) => [BigInt(places[i]), BigInt(length)]);
             const status = this.#exports[name](...words);
             const ends = lengths.map((length, i) => places[i] + length);
-            return [status, ...written.map((_, i) => memory.slice(places[read.length + i], ends[read.length + i]))];
+            answered = [status, ...written.map((_, i) => memory.slice(places[read.length + i], ends[read.length + i]))];
         } finally {
             // The stack has what the call computed.
             memory.fill(0);
             memory.set(this.#constants, this.#begin);
         }
+        this.#isBroken = false;
+        return answered;
     }
 
     /** Grows the memory until it has so many bytes. */
@@ -168,15 +196,16 @@ class Library {
 
 const NOTHING = new Uint8Array(0);
 
-/** The array, if it is one of bytes, and has its length where it is to have one. */
-function bytes(name, value, length = value?.length) {
-    if (!isBytes(value)) {
+/** The bytes of an array, if it is one of bytes, and has its length where it is to have one. */
+function bytes(name, value, length) {
+    const found = bytesIn(value);
+    if (found === undefined) {
         throw new TypeError(`${name} is not a Uint8Array`);
     }
-    if (value.length !== length) {
-        throw new MlDsaError(WRONG_LENGTH, `${name} has ${value.length} bytes, and not ${length}`);
+    if (length !== undefined && found.length !== length) {
+        throw new MlDsaError(WRONG_LENGTH, `${name} has ${found.length} bytes, and not ${length}`);
     }
-    return value;
+    return found;
 }
 
 /** Whether a value is an object as `{}` makes it, in this realm or another. */
@@ -232,6 +261,8 @@ class MessageHasher {
     #state;
     #gathered;
     #held = 0;
+    /** Whether a call threw on the way: nobody knows then which pieces are hashed. */
+    #isBroken = false;
 
     constructor(library, state) {
         this.#library = library;
@@ -240,24 +271,39 @@ class MessageHasher {
 
     update(piece) {
         atMost("update", arguments, 1);
-        bytes("piece", piece);
-        if (this.#held + piece.length > GATHERED) {
-            this.#flush();
-        }
-        if (piece.length > GATHERED) {
-            this.#hash(piece);
-        } else {
-            this.#gathered ??= new Uint8Array(GATHERED);
-            this.#gathered.set(piece, this.#held);
-            this.#held += piece.length;
-        }
-        return this;
+        const given = bytes("piece", piece);
+        return this.#whole(() => {
+            if (this.#held + given.length > GATHERED) {
+                this.#flush();
+            }
+            if (given.length > GATHERED) {
+                this.#hash(given);
+            } else {
+                this.#gathered ??= new Uint8Array(GATHERED);
+                this.#gathered.set(given, this.#held);
+                this.#held += given.length;
+            }
+            return this;
+        });
     }
 
     mu() {
         atMost("mu", arguments, 0);
-        this.#flush();
-        return done(this.#library.call("mldsa_mu_finish", [this.#state], [MU_LENGTH]))[0];
+        return this.#whole(() => {
+            this.#flush();
+            return done(this.#library.call("mldsa_mu_finish", [this.#state], [MU_LENGTH]))[0];
+        });
+    }
+
+    /** Makes a change, after which nothing else is made where it throws. */
+    #whole(change) {
+        if (this.#isBroken) {
+            throw new MlDsaError(BROKEN_STATE, "a call of this hasher threw");
+        }
+        this.#isBroken = true;
+        const result = change();
+        this.#isBroken = false;
+        return result;
     }
 
     /** Hashes what was gathered, and wipes it. */
@@ -323,8 +369,8 @@ class MlDsa {
 
     /** Whether a signature is accepted. One of another length is not, whatever the rest is. */
     #accepts(name, read, signature) {
-        bytes("signature", signature);
-        return signature.length === this.lengths.signature && answer(this.#call(name, [...read, signature]));
+        const given = bytes("signature", signature);
+        return given.length === this.lengths.signature && answer(this.#call(name, [...read, given]));
     }
 
     keygen(seed) {
@@ -514,7 +560,7 @@ export function loader({ beside, inside }) {
             throw new Error(UNSUPPORTED);
         }
         const module = await moduleOf(source === undefined ? await own() : await source);
-        const library = new Library(await WebAssembly.instantiate(module, {}), await generator());
+        const library = new Library(module, await WebAssembly.instantiate(module, {}), await generator());
         const [mlDsa44, mlDsa65, mlDsa87] = [44, 65, 87].map((number) => new MlDsa(library, number));
         return Object.freeze({ mlDsa44, mlDsa65, mlDsa87 });
     };

@@ -13,11 +13,20 @@ export async function webCrypto() {
     return globalThis.crypto ?? (isNode ? (await ofNode("crypto")).webcrypto : undefined);
 }
 
-const tagOf = Object.getOwnPropertyDescriptor(Object.getPrototypeOf(Uint8Array.prototype), Symbol.toStringTag).get;
+const ofArrays = Object.getPrototypeOf(Uint8Array.prototype);
+const [tagOf, bufferOf, placeOf, lengthOf] = [Symbol.toStringTag, "buffer", "byteOffset", "length"].map(
+    (name) => Object.getOwnPropertyDescriptor(ofArrays, name).get,
+);
 
-/** Whether a value is an array of bytes, of this realm or another. */
-export function isBytes(value) {
-    return tagOf.call(value) === "Uint8Array";
+/** The bytes of a Uint8Array, of this realm or another, where they are; undefined of any other value. Asks the engine,
+ * since properties of the array's own may say something else, as a length that is not its length. */
+export function bytesIn(value) {
+    if (tagOf.call(value) !== "Uint8Array") {
+        return undefined;
+    }
+    // (a TypeError where its buffer was taken away or is too short by now)
+    ofArrays.keys.call(value);
+    return new Uint8Array(bufferOf.call(value), placeOf.call(value), lengthOf.call(value));
 }
 
 /** Rejects more arguments than a call takes. */

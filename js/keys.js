@@ -1,7 +1,7 @@
 // Keys in files, as `mlsign` and OpenSSL write them: PEM in the strict form of RFC 7468, around the DER that the library
 // reads and writes (RFC 9881). What is read has one spelling: another text, however near, is rejected, and by the
 // sentences of `mlsign` but where what was found is named.
-import { atMost, isBytes, webCrypto } from "./engine.js";
+import { atMost, bytesIn, webCrypto } from "./engine.js";
 
 const PUBLIC = "PUBLIC KEY";
 const PRIVATE = "PRIVATE KEY";
@@ -21,28 +21,32 @@ export class KeyFileError extends Error {
     }
 }
 
-/** Rejects other arguments than what `load` gives, and a file. */
+/** The file, a text or bytes. Rejects other arguments than what `load` gives, and a file. */
 function checkReading(call, words) {
-    const [sets, file] = words;
+    const [sets, given] = words;
     atMost(call, words, 2);
     if (!NUMBERS.every((it) => sets?.[`mlDsa${it}`]?.name === `ML-DSA-${it}`)) {
         throw new TypeError("sets is not what load gives: await load()");
     }
-    if (typeof file !== "string" && !isBytes(file)) {
+    const file = typeof given === "string" ? given : bytesIn(given);
+    if (file === undefined) {
         throw new TypeError("file is neither a Uint8Array nor a string");
     }
+    return file;
 }
 
-/** Rejects other arguments than a parameter set, and a key. */
+/** The key. Rejects other arguments than a parameter set, and a key. */
 function checkWriting(call, words, name) {
-    const [mlDsa, key] = words;
+    const [mlDsa, given] = words;
     atMost(call, words, 2);
     if (!NUMBERS.some((it) => mlDsa?.name === `ML-DSA-${it}`)) {
         throw new TypeError("mlDsa is not a parameter set, as mlDsa65");
     }
-    if (!isBytes(key)) {
+    const key = bytesIn(given);
+    if (key === undefined) {
         throw new TypeError(`${name} is not a Uint8Array`);
     }
+    return key;
 }
 
 /** Ends reading. */
@@ -148,15 +152,14 @@ function readBy(sets, call, der) {
 /** Reads a public key: the bytes of a PEM file, or its text. Gives the number of its set and the key's bytes, or throws
  * a `KeyFileError`. */
 export function readPublicKey(sets, file) {
-    checkReading("readPublicKey", arguments);
-    const [set, publicKey] = readBy(sets, "publicKeyFromDer", derOf(file, PUBLIC));
+    const given = checkReading("readPublicKey", arguments);
+    const [set, publicKey] = readBy(sets, "publicKeyFromDer", derOf(given, PUBLIC));
     return { set, publicKey };
 }
 
 /** Reads a private key in the same way: its expanded key, its public key, and its seed where it has one. */
 export function readPrivateKey(sets, file) {
-    checkReading("readPrivateKey", arguments);
-    const der = derOf(file, PRIVATE);
+    const der = derOf(checkReading("readPrivateKey", arguments), PRIVATE);
     const [set, seed] = readBy(sets, "seedFromDer", der);
     const mlDsa = sets[`mlDsa${set}`];
     if (seed !== undefined) {
@@ -168,34 +171,34 @@ export function readPrivateKey(sets, file) {
 
 /** The text of a public key's file. */
 export function writePublicKey(mlDsa, publicKey) {
-    checkWriting("writePublicKey", arguments, "publicKey");
-    return pemOf(mlDsa.publicKeyToDer(publicKey), PUBLIC);
+    const given = checkWriting("writePublicKey", arguments, "publicKey");
+    return pemOf(mlDsa.publicKeyToDer(given), PUBLIC);
 }
 
 /** The text of a private key's file, not encrypted: of its seed, or of its expanded key. */
 export function writePrivateKey(mlDsa, key) {
-    checkWriting("writePrivateKey", arguments, "key");
+    const given = checkWriting("writePrivateKey", arguments, "key");
     const { seed, privateKey } = mlDsa.lengths;
     try {
-        return pemOf(key.length === seed ? mlDsa.seedToDer(key) : mlDsa.privateKeyToDer(key), PRIVATE);
+        return pemOf(given.length === seed ? mlDsa.seedToDer(given) : mlDsa.privateKeyToDer(given), PRIVATE);
     } catch (error) {
-        if ([seed, privateKey].includes(key.length)) {
+        if ([seed, privateKey].includes(given.length)) {
             throw error;
         }
         // It has the class of errors of this set's library.
-        const detail = `key has ${key.length} bytes, and neither ${seed}, as a seed, nor ${privateKey}`;
+        const detail = `key has ${given.length} bytes, and neither ${seed}, as a seed, nor ${privateKey}`;
         throw new error.constructor(error.status, detail);
     }
 }
 
 /** The fingerprint of a public key's file: SHA-256 of its DER, as `mlsign show` prints it. */
 export async function fingerprint(sets, file) {
-    checkReading("fingerprint", arguments);
-    readPublicKey(sets, file);
+    const given = checkReading("fingerprint", arguments);
+    readPublicKey(sets, given);
     const subtle = (await webCrypto())?.subtle;
     if (!subtle) {
         throw new Error("there is no crypto.subtle: pages have it from a file or over https");
     }
-    const digest = new Uint8Array(await subtle.digest("SHA-256", derOf(file, PUBLIC)));
+    const digest = new Uint8Array(await subtle.digest("SHA-256", derOf(given, PUBLIC)));
     return `SHA256:${btoa(String.fromCharCode(...digest)).replace(/=+$/, "")}`;
 }

@@ -7,7 +7,8 @@ export class MlDsaError extends Error {
     /**
      * The numbers of C's calls. Of any array: 2, a wrong length. Of signing: 4 and 6, the context of a message or digest
      * is too long; 7 and 8, `oid` is empty or no DER; 9 and 10, the digest is too long or not as long as its function's;
-     * 13, all attempts were rejected; 15, rejection sampling reached its limit. Of a private key: 14, out of range; 25,
+     * 13, all attempts were rejected; 15, rejection sampling reached its limit. Of a `MessageHasher`: 16, an earlier call
+     * threw. Of a private key: 14, out of range; 25,
      * not consistent; 26, without a seed. Of DER: 18, cut short; 19, followed by more; 20, damaged; 21, of another
      * version; 22, of another algorithm; 23, of a wrong length; 24, of another parameter set.
      */
@@ -50,8 +51,9 @@ export interface Random {
 }
 
 /**
- * A message that is hashed in pieces. Both calls throw a `TypeError` for other arguments, and a `RangeError` where the
- * module's memory can't grow.
+ * A message that is hashed in pieces. Both calls throw a `TypeError` for other arguments, which changes nothing, and a
+ * `RangeError` where the module's memory can't grow. After that, or any other error, each call throws an `MlDsaError`
+ * with status 16, since a part of the piece may be hashed: begin again.
  */
 export interface MessageHasher {
     /**

@@ -5,12 +5,12 @@ step = @nice -n 5 scripts/gate --step $@ '$^'
 python = flock out/python.lock
 
 # Without the kit, over what cargo builds: what others wait for, and then the longest first.
-TEST = tools library definitions rust rust-others programs mlsign-rust lint c-gcc c-clang c-sanitized js erasing python \
+TEST = tools library definitions rust rust-others programs mlsign-rust lint fuzzers c-gcc c-clang c-sanitized js erasing python \
 	vectors-wasm vectors-rust vectors-c vectors-mlsign refusals pages js-page erased tokens installs
 # With the kit: `rt ci`, and what is native, over what it left.
 CHECK = proof tools-check archives secrets ledger mlsign native-c native-c-v3 native-c-aarch64 native-c-musl \
 	native-c-clang native-c-sanitized native-c-valgrind native-python native-vectors-v2 native-vectors-v3 \
-	native-vectors-aarch64 native-vectors-mlsign rust-aarch64 c-valgrind secrets-rust module examples packages
+	native-vectors-aarch64 native-vectors-mlsign native-fuzzers rust-aarch64 c-valgrind secrets-rust module examples packages
 .PHONY: $(TEST) $(CHECK) list-test list-check
 
 list-test: ; @echo $(TEST)
@@ -31,6 +31,7 @@ library: tools ; $(step) cargo -- scripts/archive rust
 c-gcc: library ; $(step) gcc g++ nm -- c/test --processor rust
 c-clang: library ; $(step) clang clang++ nm -- env CC=clang CXX=clang++ c/test --processor rust
 c-sanitized: library ; $(step) gcc -- c/test --processor rust --sanitize
+fuzzers: tools ; $(step) cargo clang -- c/fuzz/run
 c-valgrind: library ; $(step) gcc valgrind -- c/test --processor rust --valgrind
 vectors-c: library ; $(step) gcc -- vectors/run c rust
 mlsign-rust: tools ; $(step) cargo cc -- tests/mlsign/run --rust
@@ -60,6 +61,7 @@ native-python: archives ; $(step) gcc -- $(python) python/test --processor x86-6
 native-vectors-v2: archives ; $(step) gcc -- vectors/run c x86-64-v2
 native-vectors-v3: archives ; $(step) gcc -- vectors/run c x86-64-v3
 native-vectors-aarch64: archives ; $(step) aarch64-linux-gnu-gcc qemu-aarch64 -- vectors/run c aarch64
+native-fuzzers: archives fuzzers ; $(step) clang -- c/fuzz/run --native
 native-vectors-mlsign: proof ; $(step) -- vectors/run mlsign
 rust-aarch64: tools-check ; $(step) cargo -- rust/test --processor aarch64
 secrets: archives ; $(step) gcc valgrind -- bench/secrets/run

@@ -13,7 +13,8 @@ enum { ROUNDS = 4, MESSAGE = 300, RHO = 32, TR = 64, TR_LEN = 64 };
 #define PUBLIC(array, length) VALGRIND_MAKE_MEM_DEFINED(array, length)
 
 static uint8_t seed[32], random_bytes[32], public_key[LONGEST_KEY], private_key[LONGEST_KEY], signature[LONGEST_SIGNATURE];
-static uint8_t message[MESSAGE], digest[32], mu[64], prepared[LONGEST_PREPARED_KEY];
+static uint8_t message[MESSAGE], digest[32], mu[64], prepared[LONGEST_PREPARED_KEY], state[MLDSA_STATE_LEN];
+static uint8_t file[LONGEST_DER], read_key[LONGEST_KEY], read_seed[32];
 
 /* Results are public. */
 static void done(const char *call, uint32_t status)
@@ -28,6 +29,27 @@ static void key_is_secret(const struct set *s)
     SECRET(private_key, s->private_key_len);
     PUBLIC(private_key, RHO);
     PUBLIC(private_key + TR, TR_LEN);
+}
+
+/* What a file of a key holds of it is secret, and its frame is not. */
+static void read_again(const struct set *s, size_t length, int has_seed)
+{
+    if (has_seed)
+        done("seed_from_der", s->seed_from_der(file, length, read_seed, 32));
+    done("private_key_from_der", s->private_key_from_der(file, length, read_key, s->private_key_len));
+}
+
+static void files(const struct set *s)
+{
+    size_t sk = s->private_key_len;
+    done("seed_to_der", s->seed_to_der(seed, 32, file, MLDSA_SEED_DER_LEN));
+    read_again(s, MLDSA_SEED_DER_LEN, 1);
+    done("both_to_der", s->both_to_der(seed, 32, file, s->both_der_len));
+    PUBLIC(file + s->both_der_len - sk, RHO);
+    PUBLIC(file + s->both_der_len - sk + TR, TR_LEN);
+    read_again(s, s->both_der_len, 1);
+    done("private_key_to_der", s->private_key_to_der(private_key, sk, file, s->private_key_der_len));
+    read_again(s, s->private_key_der_len, 0);
 }
 
 int main(int count, char **words)
@@ -48,6 +70,9 @@ int main(int count, char **words)
         done("public_key", s->public_key(private_key, sk, public_key, pk));
         PUBLIC(public_key, pk);
         done("is_whole", s->is_whole(private_key, sk));
+        done("is_pair", s->is_pair(private_key, sk));
+        done("mu_begin_private", s->mu_begin_private(private_key, sk, digest, 9, state, sizeof state));
+        files(s);
         memset(random_bytes, i, 32);
         SECRET(random_bytes, 32);
         done("sign", s->sign(private_key, sk, message, MESSAGE, digest, 9, random_bytes, 32, signature, sig));

@@ -12,6 +12,7 @@ import fcntl
 import functools
 import hashlib
 import os
+import stat
 import threading
 import time
 from typing import Dict, List, NamedTuple, Optional, Tuple
@@ -21,10 +22,21 @@ from mldsa import InvalidSignature, PreparedPublicKey, PrivateKey, load_der_publ
 # How many prepared keys, of 60 kB at most, a worker keeps.
 _KEPT = 1024
 _preparing = threading.Lock()
+# For how many seconds a ledger is waited for that a writer has.
+_PATIENCE = 30
 
 
 class LedgerError(Exception):
-    """The ledger can't be written."""
+    """The ledger can't be written or read."""
+
+
+def _opened(path: str, flags: int) -> int:
+    """A descriptor of a ledger, which is a regular file: of a pipe no part could be read again."""
+    file = os.open(path, flags | os.O_NONBLOCK | os.O_CLOEXEC, 0o644)
+    if not stat.S_ISREG(os.fstat(file).st_mode):
+        os.close(file)
+        raise LedgerError(f"{path} is no regular file")
+    return file
 
 
 class Writer:
@@ -32,10 +44,11 @@ class Writer:
 
     def __init__(self, path: str, key: PrivateKey) -> None:
         self._key, self._fingerprint = key.prepare(), key.public_key().fingerprint
-        self._file = os.open(path, os.O_RDWR | os.O_APPEND | os.O_CREAT, 0o644)
+        self._folder = os.path.dirname(os.path.abspath(path))
+        self._file = _opened(path, os.O_RDWR | os.O_APPEND | os.O_CREAT)
 
     def append(self, message: bytes, context: bytes = b"", *, deterministic: bool = False) -> None:
-        """Signs a message, and writes its record."""
+        """Signs a message, and writes its record: all of it, or nothing where the disk is full."""
         fields = (context, message, self._key.sign(message, context, deterministic=deterministic))
         line = b"\t".join([self._fingerprint.encode(), *map(base64.b64encode, fields)]) + b"\n"
         fcntl.flock(self._file, fcntl.LOCK_EX)
@@ -43,15 +56,21 @@ class Writer:
             size = os.fstat(self._file).st_size
             if size and os.pread(self._file, 1, size - 1) != b"\n":
                 raise LedgerError("the last record of the ledger is cut short")
-            if os.write(self._file, line) != len(line):
-                raise LedgerError("the record was written in part, and cuts the ledger short")
+            try:
+                while line:
+                    line = line[os.write(self._file, line):]
+            except BaseException:
+                os.ftruncate(self._file, size)
+                raise
         finally:
             fcntl.flock(self._file, fcntl.LOCK_UN)
 
     def close(self) -> None:
-        """Ends once the records are on the disk."""
-        os.fsync(self._file)
-        os.close(self._file)
+        """Ends once the records are on the disk, and the name of the file is too."""
+        folder = os.open(self._folder, os.O_RDONLY | os.O_DIRECTORY)
+        for file in (self._file, folder):
+            os.fsync(file)
+            os.close(file)
 
 
 class Part(NamedTuple):
@@ -72,9 +91,25 @@ class Verdict(NamedTuple):
     seconds: float
 
 
+def _end(path: str) -> int:
+    """The length of a ledger while nobody writes, so that its last record is whole, unless a writer was killed."""
+    file, patience = _opened(path, os.O_RDONLY), time.monotonic() + _PATIENCE
+    try:
+        while True:
+            try:
+                fcntl.flock(file, fcntl.LOCK_SH | fcntl.LOCK_NB)
+                return os.fstat(file).st_size
+            except BlockingIOError:
+                if time.monotonic() > patience:
+                    raise LedgerError(f"another program has locked {path}, for {_PATIENCE} seconds now") from None
+                time.sleep(0.05)
+    finally:
+        os.close(file)
+
+
 def parts(path: str, size: int) -> List[Part]:
     """The parts of a ledger as it is now, each of so many bytes but the last."""
-    end = os.stat(path).st_size
+    end = _end(path)
     return [Part(path, start, min(start + size, end)) for start in range(0, end, size)]
 
 

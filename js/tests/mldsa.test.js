@@ -7,7 +7,7 @@ import { fileURLToPath } from "node:url";
 import test from "node:test";
 import vm from "node:vm";
 import * as all from "../mldsa.js";
-import { readPublicKey } from "../keys.js";
+import { readPublicKey, writePublicKey } from "../keys.js";
 import { SEED, hex, ofOpenssl, sha256, shake, text, utf8 } from "./shared.js";
 
 const { MlDsaError, isSupported, load, oids } = all;
@@ -173,6 +173,146 @@ test("what signing refuses otherwise", () => {
         const other = privateKey.slice();
         other[other.length - 1] ^= 1; // of t0
         assert.equal(set.isWhole(other), false);
+    }
+});
+
+test("where a call is cut off, as where the engine's stack ends, the next one works", async (t) => {
+    const { instantiate } = WebAssembly;
+    for (const number of [44, 65, 87]) {
+        const name = `mldsa${number}_sign`;
+        let inside = 0;
+        t.mock.method(WebAssembly, "instantiate", async (...words) => {
+            const { exports } = await instantiate.call(WebAssembly, ...words);
+            const sign = (...given) => {
+                inside++;
+                const status = exports[name](...given);
+                inside--;
+                return status;
+            };
+            return { exports: { ...exports, [name]: sign } };
+        });
+        const set = (await load(code))[`mlDsa${number}`];
+        const { publicKey, privateKey } = set.keygen(SEED);
+        const wanted = set.sign(privateKey, SEED, { random: ZEROS });
+        const walk = (depth) => (depth === 0 ? set.sign(privateKey, SEED, { random: ZEROS }) : walk(depth - 1));
+        // Halves what is between a depth that fits and one that does not, until the stack ended within the module.
+        for (let round = 0; round < 50 && inside === 0; round++) {
+            let [low, high] = [0, 1 << 20];
+            while (high - low > 1) {
+                const middle = (low + high) >> 1;
+                let signature;
+                try {
+                    signature = walk(middle);
+                } catch (error) {
+                    assert.ok(error instanceof RangeError, error);
+                    high = middle;
+                    continue;
+                } finally {
+                    assert.equal(set.verify(publicKey, SEED, wanted), true);
+                }
+                assert.deepEqual(signature, wanted);
+                low = middle;
+            }
+        }
+        assert.equal(inside, 1, "the stack ended within the module");
+    }
+    // A call that stands for one which was cut off: the instance that made it makes no other.
+    const instances = [];
+    t.mock.method(WebAssembly, "instantiate", async (...words) => {
+        const { exports } = await instantiate.call(WebAssembly, ...words);
+        const cut = () => {
+            new Uint8Array(exports.memory.buffer).fill(1);
+            throw new WebAssembly.RuntimeError("unreachable");
+        };
+        instances.push(exports);
+        return { exports: { ...exports, mldsa44_keygen: cut, mldsa_mu_update: cut } };
+    });
+    const set = (await load(code)).mlDsa44;
+    assert.throws(() => set.keygen(SEED), WebAssembly.RuntimeError);
+    assert.deepEqual(set.keygen(SEED), sets.mlDsa44.keygen(SEED));
+    assert.ok(new Uint8Array(instances[0].memory.buffer).every((byte) => byte === 0), "what was cut off is wiped");
+});
+
+test("a hasher of which a call threw takes no other", async (t) => {
+    const { publicKey } = sets.mlDsa44.keygen(SEED);
+    const { instantiate } = WebAssembly;
+    let left = 2;
+    t.mock.method(WebAssembly, "instantiate", async (...words) => {
+        const { exports } = await instantiate.call(WebAssembly, ...words);
+        const update = (...given) => {
+            if (left-- === 0) {
+                throw new RangeError("the stack ended");
+            }
+            return exports.mldsa_mu_update(...given);
+        };
+        return { exports: { ...exports, mldsa_mu_update: update } };
+    });
+    const set = (await load(code)).mlDsa44;
+    const hasher = set.messageHasher(publicKey);
+    // What is refused before anything is hashed changes nothing.
+    assert.throws(() => hasher.update("text"), TypeError);
+    assert.throws(() => hasher.update(ZEROS, ZEROS), TypeError);
+    // Of this piece two parts of three are hashed.
+    assert.throws(() => hasher.update(new Uint8Array(3 << 20)), { name: "RangeError", message: "the stack ended" });
+    for (let again = 0; again < 2; again++) {
+        assert.throws(() => hasher.update(new Uint8Array(3 << 20)), refused(16, "a call of this hasher threw"));
+        assert.throws(() => hasher.mu(), refused(16, "a call of this hasher threw"));
+    }
+    const whole = set.messageHasher(publicKey).update(new Uint8Array(3 << 20)).mu();
+    assert.deepEqual(whole, sets.mlDsa44.messageHasher(publicKey).update(new Uint8Array(3 << 20)).mu());
+});
+
+test("an array whose properties lie is taken as it is", () => {
+    const set = sets.mlDsa44;
+    const { publicKey, privateKey } = set.keygen(SEED);
+    const message = () => Uint8Array.of(1, 2, 3, 4);
+    const wanted = set.sign(privateKey, message(), { random: ZEROS });
+    for (const length of [-16, 0, 2, 5, 2 ** 40, NaN, "3", 1312]) {
+        const lies = (array) => Object.defineProperty(array, "length", { value: length });
+        assert.deepEqual(set.sign(privateKey, lies(message()), { random: ZEROS }), wanted);
+        assert.equal(set.verify(lies(publicKey.slice()), message(), lies(wanted.slice())), true);
+        assert.throws(() => set.verify(lies(new Uint8Array(50000)), message(), wanted), refused(2, "publicKey has 50000 bytes, and not 1312"));
+        const mu = set.messageHasher(publicKey).update(lies(message())).mu();
+        assert.equal(set.verifyMu(publicKey, mu, wanted), true);
+        const file = lies(utf8(writePublicKey(set, lies(publicKey.slice()))));
+        assert.deepEqual(readPublicKey(sets, file), { set: 44, publicKey });
+    }
+    class Other extends Uint8Array {
+        subarray() {
+            return new Uint8Array(3);
+        }
+    }
+    const long = new Uint8Array(3 << 20).fill(7);
+    const mu = set.messageHasher(publicKey).update(long).mu();
+    assert.deepEqual(set.messageHasher(publicKey).update(new Other(long)).mu(), mu);
+    // Arrays whose buffer went elsewhere, or became too short for them, are none of no bytes.
+    const gone = new Uint8Array(4);
+    structuredClone(gone.buffer, { transfer: [gone.buffer] });
+    const buffer = new ArrayBuffer(8, { maxByteLength: 8 });
+    const short = new Uint8Array(buffer, 4, 4);
+    buffer.resize?.(6);
+    for (const it of buffer.resize ? [gone, short] : [gone]) {
+        assert.throws(() => set.sign(privateKey, it), TypeError);
+        assert.throws(() => set.messageHasher(publicKey).update(it), TypeError);
+    }
+});
+
+test("a module of another version is refused when it is loaded", async (t) => {
+    const { instantiate } = WebAssembly;
+    const version = Number(header.match(/#define MLDSA_VERSION (0x\w+)/)[1]);
+    let said;
+    t.mock.method(WebAssembly, "instantiate", async (...words) => {
+        const { exports } = await instantiate.call(WebAssembly, ...words);
+        return { exports: { ...exports, mldsa_version: said } };
+    });
+    for (const found of [version, version + 1, version | 255]) {
+        said = () => found;
+        assert.equal((await load(code)).mlDsa44.keygen(SEED).publicKey.length, 1312);
+    }
+    const others = [version - 1, version + 256, version - 256, version + 65536, version ^ 0x80000000, 0];
+    for (const it of [undefined, ...others.map((found) => () => found)]) {
+        said = it;
+        await assert.rejects(load(code), /^Error: the module is not mldsa.wasm of version 0\.2\.0, or a later one with the same calls$/);
     }
 });
 

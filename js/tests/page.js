@@ -223,6 +223,17 @@ function program(entry, keys) {
             const { mlDsa87 } = sets;
             const key = readPublicKey(sets, pem).publicKey;
             const { publicKey, privateKey } = mlDsa87.keygen();
+            // The engine's stack ends in some of these calls, after which others work.
+            const deep = (depth) => (depth === 0 ? mlDsa87.sign(privateKey, key) : deep(depth - 1));
+            for (let low = 0, high = 1 << 20; high - low > 1; ) {
+                const middle = (low + high) >> 1;
+                try {
+                    deep(middle);
+                    low = middle;
+                } catch {
+                    high = middle;
+                }
+            }
             const own = mlDsa87.verify(publicKey, key, mlDsa87.sign(privateKey, new frame.contentWindow.Uint8Array(key)));
             const answers = [mlDsa87.verify(key, bytes("message"), signature, { context: bytes("context") }), mlDsa87.verify(key, bytes("message"), signature), own];
             document.title = [...answers, await fingerprint(sets, pem)].join(" ");

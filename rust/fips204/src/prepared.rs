@@ -77,7 +77,7 @@ macro_rules! prepared_keys {
         }
 
         impl PreparedPublicKey {
-            /// The key that this one was made of. Its bytes come first in a prepared key.
+            /// The key that this one was made of; if this one was wiped, one that was wiped too. Its bytes come first in a prepared key.
             ///
             /// ```
             #[doc = concat!("use fips204::", $name, "::KG;")]
@@ -89,9 +89,7 @@ macro_rules! prepared_keys {
             /// ```
             #[must_use]
             pub fn key(&self) -> PublicKey {
-                let mut key = set::PublicKey(Wiped::zeros());
-                key.0.array_mut().copy_from_slice(&self.0.array()[..PK_LEN]);
-                key
+                set::PublicKey(self.0.copied_to(Wiped::zeros()))
             }
 
             /// Begins a message in pieces, as `message_hasher` of the key does. Takes [`STACK_MU`](crate::STACK_MU) bytes of stack.
@@ -161,7 +159,7 @@ macro_rules! prepared_keys {
         }
 
         impl PreparedPrivateKey {
-            /// The key that this one was made of. Its bytes come first in a prepared key.
+            /// The key that this one was made of; if this one was wiped, one that was wiped too. Its bytes come first in a prepared key.
             ///
             /// ```
             #[doc = concat!("use fips204::", $name, "::KG;")]
@@ -173,9 +171,7 @@ macro_rules! prepared_keys {
             /// ```
             #[must_use]
             pub fn key(&self) -> PrivateKey {
-                let mut key = set::PrivateKey(held());
-                key.0.array_mut().copy_from_slice(&self.0.array()[..SK_LEN]);
-                key
+                set::PrivateKey(self.0.copied_to(held()))
             }
 
             /// Begins a message in pieces, as `message_hasher` of the key does. Takes [`STACK_MU`](crate::STACK_MU) bytes of stack.

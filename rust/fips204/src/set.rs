@@ -88,7 +88,7 @@ where
         done.map(|()| key).map_err(why)
     }
 
-    /// The bytes of the key, where it keeps them.
+    /// The bytes of the key, where it keeps them: of a key that was wiped zeros, which are not to be read as a key.
     ///
     /// ```
     /// # #[cfg(feature = "ml-dsa-65")] {
@@ -293,7 +293,7 @@ where
 }
 
 impl<const PK: usize, const SK: usize, const SIG: usize> PublicKey<PK, SK, SIG> {
-    /// The bytes of the key, where it keeps them.
+    /// The bytes of the key, where it keeps them: of a key that was wiped zeros, which are not to be read as a key.
     ///
     /// ```
     /// # #[cfg(feature = "ml-dsa-65")] {
@@ -310,7 +310,7 @@ impl<const PK: usize, const SK: usize, const SIG: usize> PublicKey<PK, SK, SIG> 
         self.0.array()
     }
 
-    /// A copy of the bytes of the key, which stays.
+    /// A copy of the bytes of the key, which stays: of a key that was wiped zeros, as of `as_bytes`.
     ///
     /// ```
     /// # #[cfg(feature = "ml-dsa-65")] {
@@ -438,6 +438,7 @@ where
 {
     type ByteArray = [u8; SK];
 
+    /// Of a key that was wiped zeros, as of `as_bytes`.
     fn into_bytes(self) -> [u8; SK] {
         *self.0.array()
     }
@@ -452,6 +453,7 @@ where
 impl<const PK: usize, const SK: usize, const SIG: usize> SerDes for PublicKey<PK, SK, SIG> {
     type ByteArray = [u8; PK];
 
+    /// Of a key that was wiped zeros, as of `as_bytes`.
     fn into_bytes(self) -> [u8; PK] {
         *self.0.array()
     }
@@ -487,7 +489,7 @@ impl<const PK: usize, const SK: usize, const SIG: usize> TryFrom<&[u8]> for Publ
     }
 }
 
-/// The bytes of the key.
+/// The bytes of the key, as `as_bytes` gives them.
 impl<const PK: usize, const SK: usize, const SIG: usize> AsRef<[u8]> for PublicKey<PK, SK, SIG> {
     fn as_ref(&self) -> &[u8] {
         self.0.array()

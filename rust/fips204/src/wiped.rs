@@ -90,9 +90,12 @@ impl<const N: usize, P: BorrowMut<[u8; N]>> Wiped<N, P> {
         self.is_wiped = true;
     }
 
-    /// Writes a copy over another one of the same kind, byte by byte from place to place.
-    fn copied_to(&self, mut copy: Self) -> Self {
-        copy.array_mut().copy_from_slice(self.array());
+    /// Writes the first bytes over another one, from place to place. What was wiped makes a copy that was wiped.
+    pub(crate) fn copied_to<const M: usize, Q: BorrowMut<[u8; M]>>(
+        &self,
+        mut copy: Wiped<M, Q>,
+    ) -> Wiped<M, Q> {
+        copy.array_mut().copy_from_slice(&self.array()[..M]);
         copy.is_wiped = self.is_wiped;
         copy
     }
@@ -173,12 +176,13 @@ mod tests {
         let mut value = held::<5>();
         value.array_mut().fill(7);
         assert_eq!((value.given(), value.front(2)), (&[7; 5][..], &[7; 2][..]));
+        assert_eq!(value.copied_to(Wiped::<2>::zeros()).given(), &[7; 2]);
         value.wipe();
         assert_eq!(value.array(), &[0; 5]);
-        let mut copy = value.clone();
-        for it in [&mut value, &mut copy] {
+        for it in [&value, &value.clone()] {
             assert_eq!((it.given(), it.front(2)), (&[][..], &[][..]));
         }
+        assert_eq!(value.copied_to(Wiped::<2>::zeros()).given(), &[]);
     }
 
     /// A value that is moved has its bytes where they were.

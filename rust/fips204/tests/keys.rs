@@ -84,6 +84,9 @@ macro_rules! tests_of_a_set {
 
                 // Zeros are a public key too, one under which anybody can sign.
                 assert_ne!(public, PublicKey::try_from_bytes([0; PK_LEN]).unwrap());
+                // The key of a prepared one that was wiped is one that was wiped.
+                let (of_checks, of_signs) = (checks.key(), signs.key());
+                assert_eq!(of_checks, public);
                 let (mu, seed, digest) = ([1; 64], [0; 32], [5; 32]);
                 let oid = &fips204::pre_hash::SHA2_256;
                 for signature in [[0; SIG_LEN], [0xFF; SIG_LEN]] {
@@ -103,6 +106,7 @@ macro_rules! tests_of_a_set {
                     signs.try_sign_with_seed(&seed, b"m", b""),
                     signs.try_hash_sign_with_seed(&seed, &digest, b"", oid),
                     signs.try_sign_mu_with_seed(&seed, &mu).map_err(Into::into),
+                    of_signs.try_sign_with_seed(&seed, b"m", b""),
                 ] {
                     assert_eq!(refused, Err(WIPED));
                 }
@@ -119,6 +123,8 @@ macro_rules! tests_of_a_set {
                     private.message_hasher(b""),
                     checks.message_hasher(b""),
                     signs.message_hasher(b""),
+                    of_checks.message_hasher(b""),
+                    of_signs.message_hasher(b""),
                 ] {
                     assert_eq!(begun.err().map(|it| it.to_string()), Some(WIPED.into()));
                 }
