@@ -8,9 +8,8 @@ import pathlib
 import re
 import subprocess
 import tarfile
-import tempfile
 
-from common import TOP, archives, command, text
+from common import TOP, command, text
 
 # What a call from C, Rust or JavaScript runs.
 CRATES = ("fips204_base", "fips204", "fips204_bytes", "shake", "fips204_shake", "mldsa_c")
@@ -63,26 +62,11 @@ def processors():
     return f"{count} processors, {found[1] if found else os.uname().machine}"
 
 
-def read(path):
-    return pathlib.Path(path).read_text(encoding="utf-8", errors="replace")
-
-
 def instructions(run, out):
     """The instructions of what `run` runs behind the words of a tool, as callgrind counts them into a file."""
     run("valgrind", "--tool=callgrind", f"--callgrind-out-file={out}")
-    return int(re.search(r"^(?:summary|totals): (\d+)", read(out), re.M)[1])
-
-
-def stack(run, out):
-    """Its largest stack in bytes, by massif."""
-    run("valgrind", "--tool=massif", "--stacks=yes", "--heap=no", f"--massif-out-file={out}")
-    return max(map(int, re.findall(r"^mem_stacks_B=(\d+)", read(out), re.M)))
-
-
-def memory(run, out):
-    """The most memory that it held, in kB, by GNU time."""
-    run("/usr/bin/time", "-f", "%M", "-o", out)
-    return int(read(out).split()[-1])
+    said = pathlib.Path(out).read_text(encoding="utf-8", errors="replace")
+    return int(re.search(r"^(?:summary|totals): (\d+)", said, re.M)[1])
 
 
 def load():
@@ -100,11 +84,3 @@ def put_section(heading, body, behind):
     else:
         parts.insert(max(place for place, part in enumerate(parts) if part.startswith(behind)) + 1, made)
     (TOP / TABLE).write_text("\n\n".join(part.strip() for part in parts) + "\n", encoding="utf-8")
-
-
-def times_in_c(source):
-    """What a program in C prints of times, over the library with the code of both levels: the fields of each line."""
-    archive, = archives("x86-64")
-    with tempfile.TemporaryDirectory() as room:
-        command("gcc", "-std=gnu11", "-O2", f"-I{TOP}/c", f"-I{TOP}/c/tests", source, archive, "-o", f"{room}/times")
-        return [line.split() for line in command(f"{room}/times").splitlines()]

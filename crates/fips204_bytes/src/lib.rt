@@ -8,7 +8,6 @@
 #![tactic(auto)]
 
 mod by_name;
-mod callers;
 mod calls;
 pub mod laws;
 mod refusal;
