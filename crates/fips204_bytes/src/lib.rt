@@ -8,6 +8,7 @@
 #![tactic(auto)]
 
 mod by_name;
+mod callers;
 mod calls;
 pub mod laws;
 mod refusal;

@@ -1,16 +1,20 @@
-//! Callers for mutations: what the aliases and the lengths of this crate stand for, by what goes through them. No code calls
-//! them.
+//! Callers for mutations: what the aliases and the lengths of this crate stand for, by what goes through them, and what its
+//! law says. No code calls them.
 #![tactic(auto)]
 
-ghost use Rattle.std.specs.Prelude.{◌≡◌, ◌↔◌, IsTrue};
+ghost use Rattle.std.specs.Prelude.{◌≡◌, ◌≤◌, ◌↔◌, ℕ, IsTrue};
+ghost use Rattle.fips204_base.specs.Streams.{ArePrefixes};
+ghost use Rattle.fips204.specs.LongerFronts.{SamplesStay, AnswersStay, AcceptanceStays};
 ghost use Rattle.fips204.specs.Framing.{plain};
-ghost use Rattle.fips204.specs.ParameterSets.{set_44, set_65, set_87, public_key_length, private_key_length, signature_length};
+ghost use Rattle.fips204.specs.ParameterSets.{ParameterSet, IsSet, set_44, set_65, set_87, public_key_length, private_key_length, signature_length};
 ghost use Rattle.fips204.specs.Prepared.{sign_prepared, VerifiesPrepared};
 ghost use Rattle.fips204.specs.PreparedBytes.{prepared_public_length, prepared_private_length};
 ghost use Rattle.fips204.specs.Sets.{named_set};
 ghost use Rattle.fips204_bytes.specs.Bytes.{Generates};
 ghost use Rattle.fips204_shake.specs.Fronts.{shake256_front, shake128_front};
+ghost use Rattle.shake.specs.Shake.{shake256, shake128};
 
+use crate::streams::only_limits_differ;
 use crate::{
     MAX_PREHASH_LEN, MAX_SIGN_ATTEMPTS, MlDsa, MlDsa44, MlDsa65, MlDsa87, ml_dsa_44, ml_dsa_65,
     ml_dsa_87,
@@ -200,4 +204,16 @@ pub(crate) fn generated_at_87(
     ensures { Generates set_87 shake256_front shake128_front seed.now public_key.old public_key.new private_key.old private_key.new result }
 {
     MlDsa87::keygen(seed, public_key, private_key)
+}
+
+/// What stays the same over more of the output than the bounded ones have.
+pub(crate) fn limit_parts()
+    ensures fronts { (d e : ℕ) → 1048576 ≤ d → 1048576 ≤ e → ArePrefixes shake256_front (λ x. shake256 x d) × ArePrefixes shake128_front (λ x. shake128 x e) }
+    ensures samples { (d e : ℕ) → 1048576 ≤ d → 1048576 ≤ e → SamplesStay shake256_front shake128_front (λ x. shake256 x d) (λ x. shake128 x e) }
+    ensures answers { (p : ParameterSet) (d e : ℕ) → IsSet p → 1048576 ≤ d → 1048576 ≤ e
+        → AnswersStay p shake256_front shake128_front (λ x. shake256 x d) (λ x. shake128 x e) }
+    ensures verdicts { (p : ParameterSet) (d e : ℕ) → IsSet p → 1048576 ≤ d → 1048576 ≤ e
+        → AcceptanceStays p shake256_front shake128_front (λ x. shake256 x d) (λ x. shake128 x e) }
+{
+    only_limits_differ();
 }

@@ -1,6 +1,7 @@
 //! The commands of `mlsign` as a library, generic over the source of a message.
 #![tactic(auto)]
 
+mod callers;
 mod commands;
 mod fault;
 mod forms;
