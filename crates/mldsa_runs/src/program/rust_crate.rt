@@ -1,6 +1,6 @@
-//! What the Rust crate fips204 0.5.0 returns in the cases of `program::rust_answers`, as `bench/against-rust --record` of
-//! commit fa342976 wrote it: for each of 20 cases a SHA-256, of the SHA-256 of what is written and of the status, a byte,
-//! by `keygen`, `id`, `sign`, `verify`, `check` and `batch` in turn.
+//! What the Rust crate fips204 0.5.0 returns in the cases of `program::rust_answers`, as `bench/against-rust --record`
+//! writes it: for each of 20 cases a SHA-256, of the SHA-256 of what is written and of the status, a byte, by `keygen`,
+//! `id`, `sign`, `verify`, `check` and `batch` in turn.
 #![tactic(auto)]
 
 /// Set 44, in hex.
