@@ -1,6 +1,7 @@
 #!/usr/bin/env python3
-"""Tests of `make install` and `make uninstall` over the library that cargo builds, and of each way to what is installed:
-pkg-config, CMake, the linker, the manual and the shell. What programs in C print is compared with recorded values."""
+"""Tests of `make install` and `make uninstall` over the library that cargo builds, and of each way to what is
+installed: pkg-config, CMake, the linker, the manual and the shell. What programs in C print is compared with recorded
+values."""
 import hashlib
 import os
 import pathlib
@@ -104,7 +105,8 @@ class Install(unittest.TestCase):
         stage, mine = self.room / "stage", self.prefix / "share/doc/mine"
         mine.parent.mkdir(parents=True)
         mine.write_text("mine", encoding="utf-8")
-        for words, root in ((["PREFIX=/usr", f"DESTDIR={stage}"], stage / "usr"), ([f"PREFIX={self.prefix}"], self.prefix)):
+        for words, root in ((["PREFIX=/usr", f"DESTDIR={stage}"], stage / "usr"),
+                            ([f"PREFIX={self.prefix}"], self.prefix)):
             before = self.files(self.room)
             self.make("install", *words, umask=0o077)
             self.assertEqual(self.files(root) - {"share/doc/mine"}, LIBRARY)
@@ -167,7 +169,8 @@ class Install(unittest.TestCase):
         rust = rust_for_arm()
         if not rust:
             self.skipTest(f"no rustc has a library for {ARM}: `rustup target add {ARM}`")
-        own = {"PATH": f"{rust}:{os.environ['PATH']}", "CARGO_TARGET_AARCH64_UNKNOWN_LINUX_GNU_LINKER": "aarch64-linux-gnu-gcc"}
+        own = {"PATH": f"{rust}:{os.environ['PATH']}",
+               "CARGO_TARGET_AARCH64_UNKNOWN_LINUX_GNU_LINKER": "aarch64-linux-gnu-gcc"}
         self.make(f"LIBRARY={ARM}", environment=own)
         self.make("install", f"LIBRARY={ARM}", f"PREFIX={self.prefix}")
         self.assertEqual(self.files(self.prefix), LIBRARY)

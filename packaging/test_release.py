@@ -1,10 +1,11 @@
 #!/usr/bin/env python3
-"""Tests of what scripts/release and scripts/archive reject, in a clone of this repository and without the kit: a command
-of its name stands for it. And of how the files of a release are checked."""
+"""Tests of what scripts/release and scripts/archive reject, in a clone of this repository and without the kit: a
+command of its name stands for it. And of how the files of a release are checked."""
 import base64
 import contextlib
 import hashlib
 import importlib.machinery
+import importlib.util
 import io
 import os
 import pathlib
@@ -21,7 +22,9 @@ sys.path.insert(0, str(TOP / "scripts"))
 
 from common import missing
 
-release = importlib.machinery.SourceFileLoader("release", str(TOP / "scripts/release")).load_module()
+loader = importlib.machinery.SourceFileLoader("release", str(TOP / "scripts/release"))
+release = importlib.util.module_from_spec(importlib.util.spec_from_loader("release", loader))
+loader.exec_module(release)
 RT = """#!/bin/sh
 [ "$1" = version ] && echo 'kit of this test' && exit
 echo 'rt was asked'
@@ -80,9 +83,10 @@ class Refusals(unittest.TestCase):
         """What only the publisher knows is asked for by name, and all else is made."""
         self.fill_in("repository", "contact", "flaws", "fingerprint")
         said = self.command("scripts/release")[1]
-        self.assertIn("to fill in before it is signed: packaging/PUBLISHER has no homepage: the address of the project's page\n", said)
+        front = "to fill in before it is signed:"
+        self.assertIn(f"{front} packaging/PUBLISHER has no homepage: the address of the project's page\n", said)
         self.assertEqual(re.findall("PUBLISHER has no (\\w+)", said), ["homepage"])
-        self.assertIn("to fill in before it is signed: debian/control says 'example.invalid'\n", said)
+        self.assertIn(f"{front} debian/control says 'example.invalid'\n", said)
         self.assertIn("rt was asked", said)
 
     def test_signed(self):
@@ -91,8 +95,8 @@ class Refusals(unittest.TestCase):
         signer.write_text('#!/bin/sh\necho "$@" >> "$0.calls"\n', encoding="utf-8")
         signer.chmod(0o755)
         facts = release.Facts()
-        for blanks, key, trial, wanted in ((["a blank"], "key", False, 1), (["a blank"], None, False, 0), ([], None, False, 0),
-                                           ([], "key", False, 0), (["a blank"], "key", True, 0)):
+        for blanks, key, trial, wanted in ((["a blank"], "key", False, 1), (["a blank"], None, False, 0),
+                                           ([], None, False, 0), ([], "key", False, 0), (["a blank"], "key", True, 0)):
             made.mkdir()
             (made / "file").write_text("content", encoding="utf-8")
             facts.blanks, said, calls = blanks, io.StringIO(), pathlib.Path(f"{signer}.calls")
@@ -152,8 +156,13 @@ class Check(unittest.TestCase):
         page = (TOP / "packaging/PROVENANCE").read_text(encoding="utf-8")
         self.told, self.checked, *_ = (line.strip() for line in page.splitlines() if line.startswith("    "))
         (self.room / "a-0.2.0.tgz").write_text("content", encoding="utf-8")
-        (self.room / "SHA256SUMS").write_text(f"{hashlib.sha256(b'content').hexdigest()}  a-0.2.0.tgz\n", encoding="utf-8")
+        self.list(b"content")
         self.keys = {who: self.pair(who) for who in ("owner", "other")}
+
+    def list(self, content):
+        """Writes the list, of one file with this content."""
+        line = f"{hashlib.sha256(content).hexdigest()}  a-0.2.0.tgz\n"
+        (self.room / "SHA256SUMS").write_text(line, encoding="utf-8")
 
     def pair(self, who):
         """A new key: its public key in PEM, and its fingerprint."""
@@ -170,8 +179,8 @@ class Check(unittest.TestCase):
     def signed(self, who, public):
         """A release that somebody signed, with this release.pub."""
         (self.room / "release.pub").write_text(public, encoding="utf-8")
-        signature = openssl("pkeyutl", "-sign", "-inkey", self.room / f"{who}.pem", "-rawin", "-in", self.room / "SHA256SUMS")
-        (self.room / "SHA256SUMS.sig").write_bytes(signature)
+        words = ["-inkey", self.room / f"{who}.pem", "-rawin", "-in", self.room / "SHA256SUMS"]
+        (self.room / "SHA256SUMS.sig").write_bytes(openssl("pkeyutl", "-sign", *words))
 
     def test_file(self):
         """A file that is in the signed list passes; a changed one, one that is not in it, and a changed list do not."""
@@ -184,7 +193,7 @@ class Check(unittest.TestCase):
         self.assertNotEqual(self.run_line(self.checked, "b-0.2.0.tgz")[0], 0)
         (self.room / "a-0.2.0.tgz").write_text("another", encoding="utf-8")
         self.assertNotEqual(self.run_line(self.checked)[0], 0)
-        (self.room / "SHA256SUMS").write_text(f"{hashlib.sha256(b'another').hexdigest()}  a-0.2.0.tgz\n", encoding="utf-8")
+        self.list(b"another")
         self.assertNotEqual(self.run_line(self.checked)[0], 0)
 
     def test_forged_key(self):
@@ -192,7 +201,8 @@ class Check(unittest.TestCase):
         (owner, _), (other, fingerprint) = self.keys["owner"], self.keys["other"]
         first, *inside, last = other.splitlines()
         of_owner = "\n".join(owner.splitlines()[1:-1])
-        forged = {"the owner's text, then another key in one line": f"{of_owner}\n{first}\n{''.join(inside)}-----\n{last}\n",
+        in_one_line = f"{first}\n{''.join(inside)}-----\n{last}\n"
+        forged = {"the owner's text, then another key in one line": f"{of_owner}\n{in_one_line}",
                   "the owner's text, a line, then another key": f"{of_owner}\n!\n{other}",
                   "another key, then the owner's": other + owner, "the owner's key, then another": owner + other}
         passed = []

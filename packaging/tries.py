@@ -78,7 +78,8 @@ class Tries(unittest.TestCase):
         # Stands for an mlsign that somebody had before.
         self.had.mkdir()
         shutil.copy(self.signer, self.had / "mlsign")
-        self.fingerprint = re.search(r"SHA256:(\S{43})", self.runs(self.had / "mlsign", "show", self.dist / "release.pub"))[1]
+        shown = self.runs(self.had / "mlsign", "show", self.dist / "release.pub")
+        self.fingerprint = re.search(r"SHA256:(\S{43})", shown)[1]
 
     @staticmethod
     @functools.cache
@@ -119,7 +120,9 @@ class Tries(unittest.TestCase):
         return self.room / archive.name.removesuffix(".tar.gz")
 
     def flags(self, top, *words):
-        return self.runs("pkg-config", "--cflags", "--libs", *words, "mldsa", PKG_CONFIG_PATH=f"{top}/lib/pkgconfig").split()
+        """What pkg-config says of an unpacked archive."""
+        given = {"PKG_CONFIG_PATH": f"{top}/lib/pkgconfig"}
+        return self.runs("pkg-config", "--cflags", "--libs", *words, "mldsa", **given).split()
 
     @wants("cc", "pkg-config", "readelf")
     def test_x86(self):
@@ -139,8 +142,9 @@ class Tries(unittest.TestCase):
             for wanted in (r"Type: +DYN", "GNU_RELRO", r"BIND_NOW|Flags:.*\bNOW\b", r"GNU_STACK .* RW +0x"):
                 self.assertRegex(said, wanted, file)
             self.assertNotRegex(said, r"\((RPATH|RUNPATH|TEXTREL)\)|LOAD.* RWE |\] \.(symtab|debug)", file)
-        summed = re.search(r"^(\w{64})  mlsign$", (top / "share/doc/mldsa/PROVENANCE").read_text(encoding="utf-8"), re.M)[1]
-        self.assertEqual(hashlib.sha256((top / "bin/mlsign").read_bytes()).hexdigest(), summed)
+        page = (top / "share/doc/mldsa/PROVENANCE").read_text(encoding="utf-8")
+        summed = hashlib.sha256((top / "bin/mlsign").read_bytes()).hexdigest()
+        self.assertIn(f"{summed}  mlsign", page.splitlines())
 
     @wants("aarch64-linux-gnu-gcc", "qemu-aarch64", "pkg-config")
     def test_arm(self):
@@ -172,7 +176,8 @@ class Tries(unittest.TestCase):
             (root / "var/lib/dpkg" / name).mkdir(parents=True)
         for name in ("status", "available"):
             (root / "var/lib/dpkg" / name).touch()
-        dpkg = ["dpkg", f"--root={root}", "--force-depends", "--force-not-root", "--force-script-chrootless", "--log=dpkg.log"]
+        dpkg = ["dpkg", f"--root={root}", "--force-depends", "--force-not-root", "--force-script-chrootless",
+                "--log=dpkg.log"]
         self.runs(*dpkg, "--install", *packages)
         library = root / "usr/lib/x86_64-linux-gnu"
         place = {"PKG_CONFIG_PATH": f"{library}/pkgconfig", "PKG_CONFIG_SYSROOT_DIR": root}
@@ -190,7 +195,8 @@ class Tries(unittest.TestCase):
         page, function, path = (self.dist / "PROVENANCE").read_text(encoding="utf-8"), openssl(), f"{self.had}:{PATH}"
         shown = re.findall(r"^    (.*)", page.partition("Check a file")[2].partition("What the kit")[0], re.M)
         archive = self.dist / f"mldsa-{self.version}-x86_64-linux.tar.gz"
-        told, by_openssl, by_mlsign = [it.replace("FILE", archive.name).replace("FINGERPRINT", self.fingerprint) for it in shown]
+        told, by_openssl, by_mlsign = [it.replace("FILE", archive.name).replace("FINGERPRINT", self.fingerprint)
+                                       for it in shown]
         checks = {"mlsign": by_mlsign}
         if function:
             checks["openssl"] = f"{function}; {by_openssl}"
@@ -225,7 +231,8 @@ class Tries(unittest.TestCase):
     @wants("cc", "pkg-config")
     def test_readme(self):
         """the lines of README under 'Getting it', whose files are all in the list"""
-        shown = [it.replace("FINGERPRINT", self.fingerprint) for it in lines((TOP / "README.md").read_text(encoding="utf-8"), "## Getting it\n")]
+        page = (TOP / "README.md").read_text(encoding="utf-8")
+        shown = [it.replace("FINGERPRINT", self.fingerprint) for it in lines(page, "## Getting it\n")]
         listed = set(re.findall(r"^\w{64}  (.+)$", (self.dist / "SHA256SUMS").read_text(encoding="utf-8"), re.M))
         taken = set(re.findall(r"(?<=[\s/])[\w.-]+\.(?:tar\.gz|tgz|crate|whl|deb)", "\n".join(shown)))
         self.assertTrue(taken and taken <= listed, taken - listed)
@@ -234,7 +241,8 @@ class Tries(unittest.TestCase):
         for line in shown:
             if line not in run:
                 print(f"    NOT RUN: {line}")
-        cargo = {"RUSTUP_HOME": os.environ.get("RUSTUP_HOME", os.path.expanduser("~/.rustup")), "CARGO_NET_OFFLINE": "true"}
+        cargo = {"RUSTUP_HOME": os.environ.get("RUSTUP_HOME", os.path.expanduser("~/.rustup")),
+                 "CARGO_NET_OFFLINE": "true"}
         path = f"{self.had}:{pathlib.Path(shutil.which('cargo') or '/usr/bin/cargo').parent}:{PATH}"
         said = self.runs("bash", "-e", "-c", "\n".join([openssl() or "", *run]), cwd=self.dist, path=path, **cargo)
         for wanted in (r"^(SHA256SUMS: )?valid$", r"^verified: yes$", r": OK$"):
