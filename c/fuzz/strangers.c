@@ -152,8 +152,8 @@ static uint32_t mu_of(uint32_t (*begin)(in, size_t, in, size_t, uint8_t *, size_
 /* A public key and a signature of any length: what a prepared key and mu give. */
 static void public_key(const struct set *s, struct input *in)
 {
-    size_t lengths[3] = {number(in, 2), number(in, 2), number(in, 2)}, cut = number(in, 2);
-    struct bytes key = taken(in, lengths[0]), signature = taken(in, lengths[1]), context = taken(in, lengths[2]);
+    size_t key_len = number(in, 2), signature_len = number(in, 2), context_len = number(in, 2), cut = number(in, 2);
+    struct bytes key = taken(in, key_len), signature = taken(in, signature_len), context = taken(in, context_len);
     struct bytes message = taken(in, in->left);
     int fits = key.length == s->public_key_len && signature.length == s->signature_len;
     uint32_t verdict = said(s->verify(key.at, key.length, message.at, message.length, context.at, context.length, signature.at, signature.length));
@@ -180,8 +180,8 @@ static void public_key(const struct set *s, struct input *in)
 /* A private key of any length: what a prepared one and mu sign, whether that is accepted, and what is read of its DER. */
 static void private_key(const struct set *s, struct input *in, int signs_always)
 {
-    size_t lengths[2] = {number(in, 2), number(in, 2)}, cut = number(in, 2), sig = s->signature_len;
-    struct bytes key = taken(in, lengths[0]), random_bytes = taken(in, 32), context = taken(in, lengths[1]);
+    size_t key_len = number(in, 2), context_len = number(in, 2), cut = number(in, 2), sig = s->signature_len;
+    struct bytes key = taken(in, key_len), random_bytes = taken(in, 32), context = taken(in, context_len);
     struct bytes message = taken(in, in->left);
     int fits = key.length == s->private_key_len;
     uint8_t *public_key = array(s->public_key_len), *mu = array(64), *signature = array(sig), *by_mu = array(sig), *by_prepared = array(sig);

@@ -69,7 +69,7 @@ fn with_seeds(test: impl Fn(&mut Draws)) {
     };
     let since = SystemTime::now().duration_since(UNIX_EPOCH).unwrap();
     let (given, seconds) = (number("FUZZ_SEED"), number("FUZZ_SECONDS"));
-    let end = Instant::now() + Duration::from_secs(seconds.unwrap_or(2));
+    let end = Instant::now() + Duration::from_secs(seconds.unwrap_or(1));
     let first = given.unwrap_or(since.as_nanos() as u64 >> 8);
     println!("FUZZ_SEED={first}");
     for seed in first.. {
