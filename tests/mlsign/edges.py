@@ -214,12 +214,11 @@ class Replaced(Edges):
         for size in (32, 2560, 4032, 4896):
             texts[f"{size} bytes"] = bytes(size)
         for what, text in texts.items():
-            with self.subTest(what):
-                self.put("other", text, 0o600)
-                for words in ("public -f -k private -p other", "sign -f -k private -o other message",
-                              "keygen -f -k new -p other", "convert -f -o other public"):
-                    self.fails(words, said="other: it has a private key, which is not replaced")
-                self.done("keygen -f -k other -p /dev/null")
+            self.put("other", text, 0o600)
+            for words in ("public -f -k private -p other", "sign -f -k private -o other message",
+                          "keygen -f -k new -p other", "convert -f -o other public"):
+                self.fails(words, said="other: it has a private key, which is not replaced")
+            self.done("keygen -f -k other -p /dev/null")
 
     def test_other_files_are_replaced_with_force(self):
         for text in (b"PRIVATE KEY", b"-----BEGIN PUBLIC KEY-----\nPRIVATE KEY-----\n",
@@ -266,25 +265,24 @@ class Power(Edges):
         """A file's bytes are synced before it gets its name, and the folder after it, before the next name or the end
         of the run."""
         for words, names in self.COMMANDS:
-            with self.subTest(words):
-                self.setUp()
-                calls = [line.split("\t") for line in self.calls(words, variable="NAMED_CALLS")]
-                folder = os.path.realpath(self.room)
-                synced, pending, placed = set(), None, []
-                for call, first, second in calls:
-                    if call == "fsync":
-                        if first == folder:
-                            pending = None
-                        synced.add(os.path.basename(first))
-                    elif call in ("link", "rename") and os.path.basename(second) in names:
-                        self.assertIsNone(pending, calls)
-                        self.assertIn(os.path.basename(first), synced, calls)
-                        pending = second
-                        placed.append(os.path.basename(second))
-                    elif call == "unlink":
-                        self.assertIsNone(pending, calls)
-                self.assertIsNone(pending, calls)
-                self.assertEqual(sorted(placed), sorted(names), calls)
+            self.setUp()
+            calls = [line.split("\t") for line in self.calls(words, variable="NAMED_CALLS")]
+            folder = os.path.realpath(self.room)
+            synced, pending, placed = set(), None, []
+            for call, first, second in calls:
+                if call == "fsync":
+                    if first == folder:
+                        pending = None
+                    synced.add(os.path.basename(first))
+                elif call in ("link", "rename") and os.path.basename(second) in names:
+                    self.assertIsNone(pending, calls)
+                    self.assertIn(os.path.basename(first), synced, calls)
+                    pending = second
+                    placed.append(os.path.basename(second))
+                elif call == "unlink":
+                    self.assertIsNone(pending, calls)
+            self.assertIsNone(pending, calls)
+            self.assertEqual(sorted(placed), sorted(names), calls)
 
     def test_a_folder_that_is_not_synced(self):
         """A run that cannot sync a folder fails, and all is as it was."""
@@ -293,9 +291,8 @@ class Power(Edges):
             calls = self.calls(words)
             for number, call in enumerate(calls, 1):
                 if call == "fsync":
-                    with self.subTest((words, number)):
-                        self.setUp()
-                        self.fails(words, said="Input/output error", REFUSED_CALL=str(number), REFUSED_ERROR="5")
+                    self.setUp()
+                    self.fails(words, said="Input/output error", REFUSED_CALL=str(number), REFUSED_ERROR="5")
             self.assertGreaterEqual(calls.count("fsync"), 2 * len(names), words)
 
     def test_no_key_is_lost_where_a_run_is_killed(self):
@@ -303,18 +300,17 @@ class Power(Edges):
         no use; and else the old pair is there, or its public key is made anew."""
         old, words = (self.read("private"), self.read("public")), "keygen -f -k private -p public"
         for number, call in enumerate(self.calls(words), 1):
-            with self.subTest((number, call)):
-                self.setUp()
-                killed = self.call(words, REFUSED_CALL=str(number), REFUSED_SIGNAL=str(int(signal.SIGINT)))
-                self.assertEqual(killed[0], -signal.SIGINT)
-                if self.fingerprint("private") != self.fingerprint("public"):
-                    self.assertEqual(self.read("private"), old[0])
-                    self.assertIn(old[1], [text for text, _ in self.files().values()])
-                    self.done("public -f -k private -p public", said=unittest.mock.ANY)
-                    self.assertEqual(self.read("public"), old[1])
-                for name in filter(LEFT.search, self.files()):
-                    os.remove(self.path(name))
-                self.assert_pair("private", "public")
+            self.setUp()
+            killed = self.call(words, REFUSED_CALL=str(number), REFUSED_SIGNAL=str(int(signal.SIGINT)))
+            self.assertEqual(killed[0], -signal.SIGINT)
+            if self.fingerprint("private") != self.fingerprint("public"):
+                self.assertEqual(self.read("private"), old[0])
+                self.assertIn(old[1], [text for text, _ in self.files().values()])
+                self.done("public -f -k private -p public", said=unittest.mock.ANY)
+                self.assertEqual(self.read("public"), old[1])
+            for name in filter(LEFT.search, self.files()):
+                os.remove(self.path(name))
+            self.assert_pair("private", "public")
 
     @unittest.skipUnless(IS_ROOT, "a file system is mounted by root")
     def test_both_files_are_there_after_a_loss_of_power(self):
@@ -360,18 +356,17 @@ class AtOnce(Edges):
             for number, call in enumerate(self.calls(words), 1):
                 if call not in ("link", "rename", "fsync", "unlink", "create", "statx"):
                     continue
-                with self.subTest((before, number, call)):
-                    self.reset(before)
-                    stopped = {"REFUSED_CALL": str(number), "REFUSED_SIGNAL": str(int(signal.SIGSTOP))}
-                    with self.start(words, **stopped) as first:
-                        self.assertEqual(os.waitid(os.P_PID, first.pid, os.WSTOPPED).si_status, signal.SIGSTOP)
-                        with self.start(words) as second:
-                            with contextlib.suppress(subprocess.TimeoutExpired):
-                                second.wait(0.2)
-                            first.send_signal(signal.SIGCONT)
-                            statuses = {first.wait(PATIENCE), second.wait(PATIENCE)}
-                    self.assertIn(0, statuses)
-                    self.assert_pair("private", "public")
+                self.reset(before)
+                stopped = {"REFUSED_CALL": str(number), "REFUSED_SIGNAL": str(int(signal.SIGSTOP))}
+                with self.start(words, **stopped) as first:
+                    self.assertEqual(os.waitid(os.P_PID, first.pid, os.WSTOPPED).si_status, signal.SIGSTOP)
+                    with self.start(words) as second:
+                        with contextlib.suppress(subprocess.TimeoutExpired):
+                            second.wait(0.2)
+                        first.send_signal(signal.SIGCONT)
+                        statuses = {first.wait(PATIENCE), second.wait(PATIENCE)}
+                self.assertIn(0, statuses)
+                self.assert_pair("private", "public")
 
     def reset(self, names):
         """Only these keys are there."""
@@ -402,10 +397,9 @@ class Damaged(Edges):
             yield "its key has a wrong length", pem(label, made(other))
 
     def refuse(self, said, text, *calls):
-        with self.subTest(said):
-            self.put("damaged", text, 0o600)
-            for words in calls:
-                self.fails(words, said=f"damaged: {said}")
+        self.put("damaged", text, 0o600)
+        for words in calls:
+            self.fails(words, said=f"damaged: {said}")
 
     def test_a_private_key(self):
         seed = bytes(range(32))

@@ -82,8 +82,7 @@ class Malformed(Program):
             if draw.randrange(self.one_in):
                 continue
             tried += 1
-            with open(self.path("key"), "wb") as file:
-                file.write(changed)
+            self.put("key", changed, 0o600)
             status, wrote, said = self.call(words.format("key"))
             what = f"{wrong}: status {status}, wrote {wrote[:80]!r}, said {said!r}"
             if strict(label, changed) == text:

@@ -115,7 +115,9 @@ mod tests {
             let decoded = STANDARD.decode(Global, text.as_bytes());
             assert_eq!(decoded, Err(DecodeAllocError::DecodeError(())), "{text}");
         }
-        for text in ["Zg=", "Zg==", "Zm8=", "Zh", "Zm9", "Z", "=", "Zm9vY", "Zm9v="] {
+        for text in [
+            "Zg=", "Zg==", "Zm8=", "Zh", "Zm9", "Z", "=", "Zm9vY", "Zm9v=",
+        ] {
             let decoded = STANDARD_NO_PAD.decode(Global, text.as_bytes());
             assert_eq!(decoded, Err(DecodeAllocError::DecodeError(())), "{text}");
         }

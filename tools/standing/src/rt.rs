@@ -131,12 +131,10 @@ impl Descriptor {
     }
 
     fn file(&mut self) -> io::Result<&mut File> {
-        self.0
-            .as_mut()
-            .map_err(|error| match error.raw_os_error() {
-                Some(number) => io::Error::from_raw_os_error(number),
-                None => error.kind().into(),
-            })
+        self.0.as_mut().map_err(|error| match error.raw_os_error() {
+            Some(number) => io::Error::from_raw_os_error(number),
+            None => error.kind().into(),
+        })
     }
 }
 
