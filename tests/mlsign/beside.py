@@ -53,7 +53,7 @@ class Beside(Program):
             one, other = (self.ended(it, words) for it in (self.program, self.other))
             self.program = type(self).program
             statuses[one[0]] = statuses.get(one[0], 0) + 1
-            if "try mlsign --help" in one[2] or "Usage: " in one[1]:
+            if any("try mlsign --help" in it[2] or "Usage: " in it[1] for it in (one, other)):
                 one, other = one[::3], other[::3]  # the texts are clap's, of which another version says other things
             self.same(words, other, one)
         self.assertGreater(min(statuses.get(it, 0) for it in (0, 1, 2)), 10, statuses)

@@ -274,9 +274,9 @@ class Commands(Program):
             # (of a pair the private key gets its name by the second link)
             links = [number for number, call in enumerate(self.calls(words), 1) if call == "link"]
             link = links[0] if name == "new.pub" else links[-1]
-            for more in ({}, {"REFUSED_CALL": str(link), "REFUSED_ERROR": "1"}):
+            for refused in ("0", str(link)):
                 self.fill(files)
-                status, _, said = self.call(words, RACED=name, **more)
+                status, _, said = self.call(words, RACED=name, REFUSED_CALL=refused, REFUSED_ERROR="1")
                 self.same(f"{words}, where {name} comes up", (status, self.read(name), len(self.files())),
                           (2, b"", len(files) + 1))
                 self.assertIn("File exists", said)

@@ -109,8 +109,8 @@ class Closed(Edges):
     def closed(self, words, number, name):
         """A call in a shell that closes a descriptor."""
         before = self.files()
-        done = subprocess.run(["bash", "-c", f'"$0" {words} {number}', self.program], cwd=self.room, env={},
-                              stdout=subprocess.PIPE, stderr=subprocess.PIPE, stdin=subprocess.DEVNULL, check=False)
+        done = subprocess.run(["bash", "-c", f'"$0" {words} {number}', self.program], cwd=self.room, check=False,
+                              env={"PATH": os.defpath}, stdin=subprocess.DEVNULL, capture_output=True)
         self.assertEqual((done.returncode, done.stdout), (2, b""), words)
         self.assertEqual(done.stderr.decode(), f"mlsign: {name}: Bad file descriptor (os error 9)\n")
         self.same_files(words, self.files(), before)
