@@ -25,17 +25,6 @@ class Package(unittest.TestCase):
         self.assertEqual([mldsa.__version__, importlib.metadata.version("mldsa")], [wanted, wanted])
         self.assertEqual(_library._LIBRARY.mldsa_version(), VERSION)
 
-    def test_library_of_another_version(self):
-        """It is refused when it is loaded; a later one with the same calls is not."""
-        with unittest.mock.patch("ctypes.CDLL") as loaded:
-            for found in (VERSION, VERSION + 1, VERSION | 255):
-                loaded.return_value.mldsa_version.return_value = found
-                _library._loaded()
-            for found in (0, VERSION - 1, VERSION - 256, VERSION + 256, VERSION + 65536):
-                loaded.return_value.mldsa_version.return_value = found
-                with self.assertRaisesRegex(ImportError, f"has version {found:#08x}, not "):
-                    _library._loaded()
-
     def test_it_needs_nothing(self):
         self.assertIsNone(importlib.metadata.requires("mldsa"))
         self.assertTrue((pathlib.Path(mldsa.__file__).parent / "py.typed").is_file())
