@@ -11,6 +11,7 @@ import subprocess
 import tempfile
 import unittest
 
+import registry
 import testing
 from common import TOP, emulator, missing, printed, recorded_rows
 
@@ -228,6 +229,14 @@ class Tries(unittest.TestCase):
         self.runs("sh", "-c", again, cwd=self.files)
         self.runs("sh", "-c", again, cwd=self.dist, status=1)
 
+    def for_cargo(self):
+        """A home of cargo's, which has Debian's crates where there is no registry."""
+        home = self.room / "cargo"
+        shutil.copytree(TOP / "rust/signature", home / "signature")
+        words = "".join(f"{word}\n" for word in registry.cargo_words() if "=" in word)
+        (home / "config.toml").write_text(words.replace(f"{TOP}/rust", str(home)), encoding="utf-8")
+        return home
+
     @wants("cc", "pkg-config")
     def test_readme(self):
         """the lines of README under 'Getting it', whose files are all in the list"""
@@ -242,7 +251,7 @@ class Tries(unittest.TestCase):
             if line not in run:
                 print(f"    NOT RUN: {line}")
         cargo = {"RUSTUP_HOME": os.environ.get("RUSTUP_HOME", os.path.expanduser("~/.rustup")),
-                 "CARGO_NET_OFFLINE": "true"}
+                 "CARGO_HOME": self.for_cargo()}
         path = f"{self.had}:{pathlib.Path(shutil.which('cargo') or '/usr/bin/cargo').parent}:{PATH}"
         said = self.runs("bash", "-e", "-c", "\n".join([openssl() or "", *run]), cwd=self.dist, path=path, **cargo)
         for wanted in (r"^(SHA256SUMS: )?valid$", r"^verified: yes$", r": OK$"):
