@@ -215,7 +215,7 @@ pub trait Signer {
         ensures accepted { AcceptedIfWhole (whole self.now) (derives self.now)
             (λ pk signature. Self.PublicKey.accepts pk signature (plain message.now ctx.now)) result }
     {
-        self.sign_input(seed, &Input::Message(message, ctx))
+        self.try_sign_with_rng(&mut DummyRng { bytes: *seed }, message, ctx)
     }
 
     /// Signs a digest (Algorithm 4) with 32 random bytes of the generator, which is asked once. `hash_oid` is
@@ -259,7 +259,7 @@ pub trait Signer {
         ensures accepted { AcceptedIfWhole (whole self.now) (derives self.now)
             (λ pk signature. Self.PublicKey.accepts pk signature (hashed hash.now ctx.now hash_oid.now)) result }
     {
-        self.sign_input(seed, &Input::Digest(hash, ctx, hash_oid))
+        self.try_hash_sign_with_rng(&mut DummyRng { bytes: *seed }, hash, ctx, hash_oid)
     }
 
     /// Computes the public key of the private key: its `rho` and `tr`, with t1 as in Algorithm 6.

@@ -32,3 +32,4 @@ mod WorkedBounds
 mod WorkedBytes
 mod WorkedEncodings
 mod WorkedSamplers
+pub mod Zetas

@@ -11,7 +11,7 @@ pub use Rattle.fips204_base.proofs.Layers.{Part, SoFar, block_fits, count_below,
 pub use Rattle.fips204_base.proofs.Masks.{four_rows, less_read, mask-each, mask_size-within, mask_width-is}
 pub use Rattle.fips204_base.proofs.Network.{HoldsSums, KeepsValues, halved, layer_shape, sums_end, sums_next, sums_start, values_end, values_next, values_start}
 pub use Rattle.fips204_base.proofs.Packing.{Unpacks, bytes_unpack, is_packed, is_unpacked, packs_joined, packs_none, polynomial_bytes-is, unpacks, unpacks_bytes, unpacks_once}
-pub use Rattle.fips204_base.proofs.PlainTransforms.{back_from_mont, factor-transformed, matrix-same, plain-at, plain-row, plain-transformed, plain-zeros}
+pub use Rattle.fips204_base.proofs.PlainTransforms.{back_from_mont, factor-transformed, matrix-same, plain-at, plain-row, plain-transformed, plain-values, plain-zeros, row-same}
 pub use Rattle.fips204_base.proofs.Reductions.{factor_is, factor_taken, minus_factor_is, only_lane}
 pub use Rattle.fips204_base.proofs.Residues.{congruent_mul, congruent_of, congruent_refl, congruent_trans, montgomery_congruent, product_bound, product_fits, residue_add, residue_below, residue_mul, residue_multiple, residue_sub, residue_sum_more, size_at, size_sum_more, sum_equal, wider}
 pub use Rattle.fips204_base.proofs.Sampled.{all_present-each, matrix-within, none_of_err, present_next, present_nil, present_whole, row-within, some_of_ok, vectors_none, vectors_some}
@@ -25,7 +25,7 @@ pub use Rattle.fips204_base.specs.Lanes.{IsInverse, lane, lane_at, residues}
 pub use Rattle.fips204_base.specs.Network.{AreEight, IsButterfly, IsInverseButterfly}
 pub use Rattle.fips204_base.specs.Packing.{bit_length, bits, integer_to_bits, polynomial_bytes, unpacked, width}
 unfoldable pub use Rattle.fips204_base.specs.PlainTransforms.{row_product}
-pub use Rattle.fips204_base.specs.PlainTransforms.{from_mont, lane_values, lanes_value, plain_row}
+pub use Rattle.fips204_base.specs.PlainTransforms.{from_mont, lane_values, plain_row}
 unfoldable pub use Rattle.fips204_base.specs.Residues.{sum_below}
 pub use Rattle.fips204_base.specs.Residues.{IsCongruent, coefficients, norm, residue, vector_norm}
 pub use Rattle.fips204_base.specs.SamplerSteps.{AreAhead, kept_half_bytes, kept_triples, mask_polynomial, number, numbered_entry, sampled_entry, sampled_row, triple}

@@ -19,7 +19,6 @@ use fips204::traits::{KeyGen, SerDes, Signer, Verifier, pairwise_check};
 use fips204::types::{KG, PreparedPublicKey, PrivateKey, PublicKey};
 use fips204::xof::Xof;
 use fips204::{Fault, SetName};
-use fips204_bytes::array_of;
 use mldsa_lines::lines::read_lines;
 use mldsa_lines::{Marked, RunFault};
 use std::alloc::Global;
@@ -310,6 +309,14 @@ fn fields(lines: &[Vec<u8>]) -> [&[u8]; 4]
         lines[2].as_slice(),
         lines[3].as_slice(),
     ]
+}
+
+/// A line of a known number of bytes as an array.
+fn array_of<const N: usize>(bytes: &[u8]) -> &[u8; N]
+    requires { length bytes.now ≡ N }
+    ensures { result.now ≡ bytes.now }
+{
+    bytes.as_array::<N>().unwrap()
 }
 
 /// The number that two bytes spell, the high byte first.

@@ -1,19 +1,19 @@
 //! The matrix times a vector: the matrix as it stands, or row by row from its seed.
 #![tactic(auto)]
 
-ghost use Rattle.std.specs.Prelude.{◌≡◌, ◌≢◌, ◌<◌, ◌≤◌, ℕ, [], pos, nat_abs, slice_index_or};
-ghost use Rattle.fips204_base.specs.PlainTransforms.{plain_row, row_product};
+ghost use Rattle.std.specs.Prelude.{◌≡◌, ◌≢◌, ◌<◌, ◌≤◌, ℕ, pos, length, nat_abs, slice_index_or};
+ghost use Rattle.fips204_base.specs.PlainTransforms.{lane_values, plain_row, row_product};
 ghost use Rattle.fips204_base.specs.SamplerSteps.{OnSampled};
-ghost use Rattle.fips204_base.specs.Bounds.{TransformsWithin, VectorWithin, coefficient_of};
-ghost use Rattle.fips204_base.specs.Lanes.{lane};
-ghost use Rattle.fips204_base.specs.PlainTransforms.{lanes_value};
+ghost use Rattle.fips204_base.specs.Bounds.{TransformsWithin, VectorWithin, coefficient_at, coefficient_of, vector_residues};
+ghost use Rattle.fips204_base.specs.Lanes.{LanesWithin, lane};
+ghost use Rattle.fips204_base.specs.declared.types.T.{T};
 ghost use Rattle.fips204_base.specs.Residues.{residue};
 ghost use Rattle.fips204_base.specs.Vectors.{MatrixWithin, matrix_product, vector_coefficients};
 
-use super::Transforms;
+use super::{Transforms, lanes_of, write_at};
 use crate::fault::Fault;
 use crate::hashing::write_next_row;
-use crate::helpers::vector::place_sum;
+use crate::helpers::vector::write_row_sums;
 use crate::lanes::Lanes;
 use crate::types::{R, T, T0};
 use crate::xof::Xof;
@@ -37,7 +37,7 @@ pub fn write_matrix_product<const K: usize, const L: usize>(
 {
     let mut w = Transforms::zeros();
     w.write_transforms(v);
-    w.multiply_by(a);
+    w.multiply_by(a, out);
     w.write_plain(out);
 }
 
@@ -56,56 +56,91 @@ pub fn write_sampled_product<const K: usize, const L: usize, G: Xof>(
 {
     let mut row = [T0; L];
     let mut ahead = [T0; 4];
+    let mut values = [T0; L];
+    v.write_values(&mut values);
     for r in 0..K {
         write_next_row::<K, L, G>(rho, r, &mut ahead, &mut row)?;
-        out.write_row_product(r, &row, v);
+        out.write_row_product(r, &row, &values);
     }
     Ok(())
 }
 
 impl Transforms {
-    /// Becomes `A v` (Algorithm 48) where it was `v`; the matrix is given by its transforms.
+    /// Becomes `A v` (Algorithm 48) where it was `v`; the matrix is given by its transforms. `rows` is room for those of
+    /// `A v`, so that they don't stay in the frame.
     #[inline(never)]
-    pub fn multiply_by<const K: usize, const L: usize>(&mut self, a: &[[T; L]; K])
+    pub fn multiply_by<const K: usize, const L: usize>(
+        &mut self,
+        a: &[[T; L]; K],
+        rows: &mut [R; K],
+    )
         requires shape { (K ≤ 8) × (L ≤ 7) }
         requires matrix { MatrixWithin 8380416 a.now }
         ensures { (r n : ℕ) → r < K → n < 256
             → vector_coefficients self.new r n ≡ matrix_product L a.now (vector_coefficients self.old) r n }
     {
+        let mut v = [T0; L];
+        write_values(&self.values, &mut v);
+        for r in 0..K {
+            write_row_sums(&a[r], &v, &mut rows[r].0);
+        }
         for n in 0..256usize {
-            self.values[n] = sums_at(a, self.values[n], n);
+            self.values[n] = lanes_of(rows, n);
         }
     }
 
-    /// Polynomial `r` becomes the product of a row of the matrix with `v`; the others stay.
-    pub fn write_row_product<const L: usize>(&mut self, r: usize, row: &[T; L], v: &Transforms)
+    /// Polynomial `r` becomes the product of a row of the matrix with the vector of these transforms; the others stay.
+    pub fn write_row_product<const L: usize>(&mut self, r: usize, row: &[T; L], v: &[T; L])
         requires shape { (r < 8) × (L ≤ 7) }
         requires row { TransformsWithin 8380416 row.now }
+        requires vector { TransformsWithin 8380416 v.now }
         ensures product { (n : ℕ) → n < 256
-            → vector_coefficients self.new r n ≡ row_product L (plain_row row.now) (vector_coefficients v.now) n }
+            → vector_coefficients self.new r n ≡ row_product L (plain_row row.now) (plain_row v.now) n }
         ensures kept { (i n : ℕ) → i ≢ r → i < 8 → n < 256
             → vector_coefficients self.new i n ≡ vector_coefficients self.old i n }
     {
+        let mut sums = [0; 256];
+        write_row_sums(row, v, &mut sums);
         for n in 0..256usize {
-            let sum = place_sum(row, &v.values[n].to_array(), n);
-            self.values[n] = self.values[n].with_lane(r, sum);
+            self.values[n] = self.values[n].with_lane(r, sums[n]);
         }
+    }
+
+    /// Writes the transforms, one after the other.
+    pub fn write_values<const L: usize>(&self, out: &mut [T; L])
+        requires { L ≤ 7 }
+        ensures values { (k n : ℕ) → k < L → n < 256 → plain_row out.new k n ≡ vector_coefficients self.now k n }
+        ensures small { TransformsWithin 8380416 out.new }
+    {
+        write_values(&self.values, out);
     }
 }
 
-/// The sums of the products of the rows of the matrix with the lanes, at one place.
-#[inline(always)]
-fn sums_at<const K: usize, const L: usize>(a: &[[T; L]; K], x: Lanes, n: usize) -> Lanes
-    requires shape { (K ≤ 8) × (L ≤ 7) }
-    requires matrix { MatrixWithin 8380416 a.now }
-    requires range { (r : ℕ) → r < 8 → nat_abs (lane x r) ≤ 8380416 }
-    requires place { n < 256 }
-    ensures value { (r : ℕ) → r < K → residue (lane result r) ≡ lanes_value L (slice_index_or a.now r []) x n }
-    ensures small { (r : ℕ) → r < 8 → nat_abs (lane result r) ≤ 8380416 }
+/// Writes the transforms that are in the lanes.
+fn write_values<const L: usize>(lanes: &[Lanes; 256], out: &mut [T; L])
+    requires few { L ≤ 8 }
+    requires range { LanesWithin (λ x. x) 8 8380416 lanes.now }
+    ensures values { (k n : ℕ) → k < L → n < 256 → vector_residues out.new k n ≡ lane_values lanes.now k n }
+    ensures small { TransformsWithin 8380416 out.new }
 {
-    let mut entries = [0; 8];
-    for r in 0..K {
-        entries[r] = place_sum(&a[r], &x.to_array(), n);
+    for n in 0..256usize {
+        write_values_at(lanes[n], n, out);
     }
-    Lanes::from_array(entries)
+}
+
+/// Writes value `n` of each transform.
+#[inline(always)]
+fn write_values_at<const L: usize>(x: Lanes, n: usize, out: &mut [T; L])
+    requires few { L ≤ 8 }
+    requires place { n < 256 }
+    ensures value { (k : ℕ) (d : T) → k < L → coefficient_at (slice_index_or out.new k d).0 n ≡ lane x k }
+    ensures kept { (k m : ℕ) (d : T) → m ≢ n
+        → coefficient_at (slice_index_or out.new k d).0 m ≡ coefficient_at (slice_index_or out.old k d).0 m }
+    ensures size { length out.new ≡ L }
+    ensures places { (k : ℕ) (d : T) → k < L → length (slice_index_or out.new k d).0 ≡ 256 }
+{
+    let entries = x.to_array();
+    for k in 0..L {
+        write_at(&mut out[k].0, n, entries[k]);
+    }
 }

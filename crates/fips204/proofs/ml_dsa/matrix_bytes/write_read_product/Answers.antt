@@ -1,8 +1,9 @@
 use Rattle.std.proofs.Common.{arith, refl, rules, ◌≡◌, ◌≢◌, ◌∙◌, ◌<◌, ◌+◌, ◌-◌, ◌*◌, [], None, length, set, replicate}
 use Rattle.std.proofs.lemmas.List.{length-replicate, get_or-set_same, get_or-set_other}
 use native.Mathlib.Decide.{dec_lt}
-use Rattle.fips204_base.specs.PlainTransforms.{row_product}
-use Rattle.fips204_base.specs.Vectors.{matrix_product}
+use Rattle.fips204_base.specs.PlainTransforms.{plain_row, row_product}
+use Rattle.fips204_base.specs.Vectors.{matrix_product, vector_coefficients}
+use Rattle.fips204_base.proofs.PlainTransforms.{row-same}
 use Rattle.fips204.specs.PreparedBytes.{IsRow, row_bytes}
 use Rattle.fips204.proofs.MatrixBytes.{length-row, reads_more, reads_all, unread, row_within}
 use Rattle.fips204.proofs.ml_dsa.matrix_bytes.write_read_product.Goals as goal
@@ -28,7 +29,7 @@ write_row_product-requires g c =
     let one = 1024 * g.row.L in
     let size : one * c.loop-r.r + one - one * c.loop-r.r ≡ one = omega arith in
     let read = rw size at c.in_ok-read_row.ensures in
-    (omega (arith, c.requires.few.1), ((omega (arith, c.loop-r-test.true, c.requires.few.0), c.requires.few.1), row_within g.row.L c.read_row.new.row read.0))
+    (omega (arith, c.requires.few.1), ((omega (arith, c.loop-r-test.true, c.requires.few.0), c.requires.few.1), (row_within g.row.L c.read_row.new.row read.0, c.write_values.ensures.small)))
 
 pub loop-r-preserved : goal.loop-r-preserved
 loop-r-preserved g c =
@@ -47,7 +48,8 @@ loop-r-preserved g c =
             rw (get_or-set_other kept.0 r i row [] other) (c.write_row_product.ensures.kept i n other (omega (arith, before, c.loop-r-test.true, c.requires.few.0)) m ∙ kept.2 i n before m)
         | no now ↦
             let here : i ≡ r = omega (arith, h, now) in
-            rw (here, get_or-set_same kept.0 r row [] room) (c.write_row_product.ensures.product n m)
+            rw (here, get_or-set_same kept.0 r row [] room) (c.write_row_product.ensures.product n m
+            ∙ row-same g.row.L (plain_row row) (plain_row c.write_values.new.out) (vector_coefficients c.args.v.now) n c.write_values.ensures.values m)
       ],
     )
 

@@ -1,6 +1,6 @@
 use Rattle.std.proofs.Common.{◌≡◌, ◌≢◌, ℕ, ◌<◌, ◌∙◌, [], arith}
 use native.Mathlib.Decide.{dec_lt}
-use Rattle.fips204_base.proofs.Names.{sampled_row, plain_row, row_product, sampled_matrix, vector_coefficients, matrix_product, all_present-each, row-within}
+use Rattle.fips204_base.proofs.Names.{sampled_row, plain_row, row_product, sampled_matrix, vector_coefficients, matrix_product, all_present-each, row-same, row-within}
 use Rattle.fips204_base.proofs.product.matrix.write_sampled_product.Goals as goal
 
 pub loop-r-init : goal.loop-r-init
@@ -8,7 +8,7 @@ loop-r-init g c = record { values = λ i h. absurd (omega (arith, h)); ahead = �
 
 pub write_row_product-requires : goal.write_row_product-requires
 write_row_product-requires g c =
-    (omega (arith, c.requires.shape.1), ((omega (arith, c.loop-r-test.true, c.requires.shape.0), c.requires.shape.1), row-within g.G.Xof.front c.args.rho.now g.row.L c.loop-r.r c.write_next_row.new.row c.in_ok-write_next_row.ensures.0))
+    (omega (arith, c.requires.shape.1), ((omega (arith, c.loop-r-test.true, c.requires.shape.0), c.requires.shape.1), (row-within g.G.Xof.front c.args.rho.now g.row.L c.loop-r.r c.write_next_row.new.row c.in_ok-write_next_row.ensures.0, c.write_values.ensures.small)))
 
 pub loop-r-preserved : goal.loop-r-preserved
 loop-r-preserved g c = record {
@@ -19,7 +19,12 @@ loop-r-preserved g c = record {
         (known.0, known.1, λ n l. c.write_row_product.ensures.kept i n other (omega (arith, before, c.loop-r-test.true, c.requires.shape.0)) l ∙ known.2 n l)
     | no now ↦
         let here : i ≡ c.loop-r.r = omega (arith, h, now) in
-        rw here (c.write_next_row.new.row, c.in_ok-write_next_row.ensures.0, c.write_row_product.ensures.product)
+        rw here (
+          c.write_next_row.new.row,
+          c.in_ok-write_next_row.ensures.0,
+          λ n l. c.write_row_product.ensures.product n l
+              ∙ row-same g.row.L (plain_row c.write_next_row.new.row) (plain_row c.write_values.new.out) (vector_coefficients c.args.v.now) n c.write_values.ensures.values l,
+        )
   ];
   ahead = c.in_ok-write_next_row.ensures.1;
 }

@@ -1,17 +1,10 @@
 use Rattle.std.proofs.Common.{ℕ, ℤ, ◌≡◌, ◌<◌, ◌≤◌, ◌*◌, ◌%◌, get_or, length}
-use Rattle.fips204_base.proofs.Names.{nat_abs, lane, residue, coefficients, sum_below, vector_residues}
-use Rattle.fips204_base.proofs.helpers.vector.row_sum.Given as goal
+use Rattle.fips204_base.proofs.Names.{nat_abs, coefficients, sum_below, vector_residues}
+use Rattle.fips204_base.proofs.helpers.vector.write_row_sums.Given as goal
 
 abbrev pub invariant-loop-j : goal.invariant-loop-j
 invariant-loop-j g l = record {
   size : length l.out ≡ 256;
   values : (p : ℕ) → p < l.j → coefficients l.out p ≡ sum_below g.row.L (λ k. vector_residues l.row k p * vector_residues l.u k p) % 8380417;
   small : (p : ℕ) (d : ℤ) → p < l.j → nat_abs (get_or l.out p d) ≤ 8380416;
-}
-
-abbrev pub invariant-loop-k : goal.invariant-loop-k
-invariant-loop-k g l = record {
-  size : length l.values ≡ 8;
-  values : (k : ℕ) → k < l.k → residue (lane l.values k) ≡ vector_residues l.u k l.j;
-  small : (k : ℕ) → k < 8 → nat_abs (lane l.values k) ≤ 8380416;
 }

@@ -1,6 +1,6 @@
 use Rattle.std.proofs.Common.{arith}
 use Rattle.fips204_base.proofs.Names.{ints, congruent_refl, congruent_trans, congruent_mul, residue_add, residue_sub}
-use Rattle.fips204_base.proofs.ntt.inv_butterfly.Goals as goal
+use Rattle.fips204_base.proofs.ntt.BackwardsButterfly.apply.Goals as goal
 
 pub returns-clause-values : goal.returns-clause-values
 returns-clause-values g c = λ j h. record {
