@@ -1,6 +1,5 @@
-//! The calls of the prepared keys of every parameter set: those of the plain keys, which are the bodies of `Signer` and
-//! `Verifier`, and many messages in one call. Each returns what the plain key's call of the same name returns, in fewer steps: the matrix is sampled once,
-//! by `prepare`.
+//! The calls of the prepared keys of every parameter set: those of the plain keys, and many messages in one call. Each
+//! returns what the plain key's call of the same name returns, in fewer steps, because `prepare` sampled the matrix once.
 #![tactic(auto)]
 
 ghost use Rattle.std.specs.Prelude.{◌≡◌, ◌↔◌, length, map, Ok, IfOk, IsTrue};
@@ -14,17 +13,18 @@ ghost use Rattle.fips204.specs.Prepared.{AcceptedIfWholePrepared, IsEachJudged, 
 ghost use Rattle.fips204.specs.Refusals.{DrawsIf, DrawsUnless, Writes, input_fault, refused_or};
 ghost use Rattle.fips204.specs.Signing.{sign_with};
 
+use super::random::{SignsInput, sign_drawn, sign_hedged, sign_seeded};
 use crate::input::Input;
 use crate::ml_dsa;
 use crate::sets::{HasSet, Matrix, Set, SignatureSizes};
-use crate::traits::{CryptoRngCore, Signer, Verifier};
+use crate::traits::CryptoRngCore;
 use crate::types::{PreparedPrivateKey, PreparedPublicKey, R0};
 use fips204_base::Fault;
 use fips204_base::product::Transforms;
 use fips204_base::xof::Xof;
 use std::marker::PhantomData;
 
-impl<S, const K: usize, const L: usize, const SIG_LEN: usize, H> Signer
+impl<S, const K: usize, const L: usize, const SIG_LEN: usize, H> SignsInput
     for PreparedPrivateKey<K, L, H>
 where
     H: Xof,
@@ -33,58 +33,17 @@ where
 {
     type Signature = [u8; SIG_LEN];
 
-    type PublicKey = PreparedPublicKey<K, L, H>;
-
     ghost signs = { sign_prepared S.set H.front };
 
-    ghost derives = { λ key. Ok (public_of_prepared S.set key) };
+    ghost accepted = { AcceptedIfWholePrepared S.set H.front };
 
-    ghost whole = { IsWholePrepared S.set };
+    ghost refused = { λ key random input fault broken.
+        ap (λ first. refused_or first (sign_with S.set H.front key.matrix key.parts (representative H.front key.parts.tr input) random)) broken };
 
-    ghost refused = { λ key rnd input fault broken.
-        ap (λ first. refused_or first (sign_with S.set H.front key.matrix key.parts (representative H.front key.parts.tr input) rnd)) broken };
+    ghost unsigned = { λ key input fault pk signature whole derives made. absurd cc };
 
-    fn sign_input(&self, seed: &[u8; 32], input: &Input<'_>) -> Result<[u8; SIG_LEN], Fault> {
-        let mut signature = [0u8; SIG_LEN];
-        self.write_signature(seed, input, &mut signature)?;
-        Ok(signature)
-    }
-
-    /// The public key that belongs to the key, prepared too. Never returns an error.
-    fn get_public_key(&self) -> Result<PreparedPublicKey<K, L, H>, Fault> {
-        let plain = &self.key;
-        let mut pk = PreparedPublicKey {
-            rho: plain.rho,
-            tr: plain.tr,
-            t1: [R0; K],
-            a_hat: self.a_hat,
-            t1_hat: Transforms::zeros(),
-            stream: PhantomData,
-        };
-        ml_dsa::write_high_part(&S::params(), &self.a_hat, &plain.s1, &plain.s2, &mut pk.t1);
-        ml_dsa::write_shifted_transforms(&pk.t1, &mut pk.t1_hat);
-        Ok(pk)
-    }
-}
-
-impl<S, const K: usize, const L: usize, const SIG_LEN: usize, H> Verifier
-    for PreparedPublicKey<K, L, H>
-where
-    H: Xof,
-    Matrix<K, L>: HasSet<Set = S>,
-    S: Set<Signature = [u8; SIG_LEN]> + SignatureSizes<K, L, SIG_LEN>,
-{
-    type Signature = [u8; SIG_LEN];
-
-    ghost accepts = { VerifiesPrepared S.set H.front };
-
-    ghost unbroken = { λ key signature input accepted. accepted.0 };
-
-    fn accepts_input(&self, input: &Input<'_>, signature: &[u8; SIG_LEN]) -> bool {
-        match ml_dsa::mu_of::<H>(&self.tr, input) {
-            Ok(mu) => ml_dsa::verify_prepared::<K, L, H>(&S::params(), self, &mu, signature),
-            Err(_) => false,
-        }
+    fn sign_with(&self, random: &[u8; 32], input: &Input<'_>) -> Result<[u8; SIG_LEN], Fault> {
+        self.sign_input(random, input)
     }
 }
 
@@ -104,7 +63,37 @@ where
         &self.key.tr
     }
 
-    /// Writes what `sign_input` returns: `key.write_signature(&random, &input, &mut signature)?`.
+    /// The public key that belongs to the key, prepared too. Never returns an error.
+    pub fn get_public_key(&self) -> Result<PreparedPublicKey<K, L, H>, Fault>
+        ensures { result ≡ Ok (public_of_prepared S.set self.now) }
+    {
+        let plain = &self.key;
+        let mut pk = PreparedPublicKey {
+            rho: plain.rho,
+            tr: plain.tr,
+            t1: [R0; K],
+            a_hat: self.a_hat,
+            t1_hat: Transforms::zeros(),
+            stream: PhantomData,
+        };
+        ml_dsa::write_high_part(&S::params(), &self.a_hat, &plain.s1, &plain.s2, &mut pk.t1);
+        ml_dsa::write_shifted_transforms(&pk.t1, &mut pk.t1_hat);
+        Ok(pk)
+    }
+
+    /// Signs an input with the random bytes `seed`: `key.sign_input(&random, &Input::Message(b"message", b""))?`.
+    ///
+    /// Errors: those of `PrivateKey::sign_input`.
+    pub fn sign_input(&self, seed: &[u8; 32], input: &Input<'_>) -> Result<[u8; SIG_LEN], Fault>
+        ensures answer { result ≡ sign_prepared S.set H.front self.now seed.now (input_of input.now) }
+        ensures accepted { AcceptedIfWholePrepared S.set H.front self.now (input_of input.now) result }
+    {
+        let mut signature = [0u8; SIG_LEN];
+        self.write_signature(seed, input, &mut signature)?;
+        Ok(signature)
+    }
+
+    /// Like `sign_input`, but signs into the caller's array: `key.write_signature(&random, &input, &mut signature)?`.
     ///
     /// Errors: those of `sign_input`; `signature` is then as it was.
     pub fn write_signature(
@@ -141,7 +130,7 @@ where
             Fault.SignRng (λ rnd. sign_prepared S.set H.front self.now rnd (plain message.now ctx.now)) result }
         ensures accepted { AcceptedIfWholePrepared S.set H.front self.now (plain message.now ctx.now) result }
     {
-        Signer::try_sign_with_rng(self, rng, message, ctx)
+        sign_drawn(self, rng, &Input::Message(message, ctx), Fault::SignRng)
     }
 
     /// Signs a message (Algorithm 2) with the random bytes `seed`:
@@ -157,7 +146,7 @@ where
         ensures answer { result ≡ sign_prepared S.set H.front self.now seed.now (plain message.now ctx.now) }
         ensures accepted { AcceptedIfWholePrepared S.set H.front self.now (plain message.now ctx.now) result }
     {
-        Signer::try_sign_with_seed(self, seed, message, ctx)
+        sign_seeded(self, seed, &Input::Message(message, ctx))
     }
 
     /// Signs a digest (Algorithm 4) with 32 random bytes of the generator, which is asked once. `hash_oid` is the DER
@@ -177,7 +166,7 @@ where
             R.refuses rng.old rng.new Fault.HashRng (λ rnd. sign_prepared S.set H.front self.now rnd input) result }
         ensures accepted { AcceptedIfWholePrepared S.set H.front self.now (hashed hash.now ctx.now hash_oid.now) result }
     {
-        Signer::try_hash_sign_with_rng(self, rng, hash, ctx, hash_oid)
+        sign_drawn(self, rng, &Input::Digest(hash, ctx, hash_oid), Fault::HashRng)
     }
 
     /// Signs a digest (Algorithm 4) with the random bytes `seed`:
@@ -195,7 +184,7 @@ where
         ensures answer { result ≡ sign_prepared S.set H.front self.now seed.now (hashed hash.now ctx.now hash_oid.now) }
         ensures accepted { AcceptedIfWholePrepared S.set H.front self.now (hashed hash.now ctx.now hash_oid.now) result }
     {
-        Signer::try_hash_sign_with_seed(self, seed, hash, ctx, hash_oid)
+        sign_seeded(self, seed, &Input::Digest(hash, ctx, hash_oid))
     }
 
     /// Signs a framed message `m` (Algorithm 7). The 32 random bytes are zeros without `hedged`; with it they are
@@ -212,7 +201,7 @@ where
             (λ rnd. sign_prepared S.set H.front self.now rnd (framed m.now)) result }
         ensures accepted { AcceptedIfWholePrepared S.set H.front self.now (framed m.now) result }
     {
-        self.sign_input_with_rng(rng, &Input::Framed(m), hedged)
+        sign_hedged(self, rng, &Input::Framed(m), hedged)
     }
 
     /// Signs the hash `mu` of a framed message (Algorithm 7 from line 7 on): `key.sign_mu(&mut rng, &mu, true)?`.
@@ -227,7 +216,7 @@ where
             (λ rnd. sign_prepared S.set H.front self.now rnd (represented mu.now)) result }
         ensures accepted { AcceptedIfWholePrepared S.set H.front self.now (represented mu.now) result }
     {
-        self.sign_input_with_rng(rng, &Input::Mu(mu), hedged)
+        sign_hedged(self, rng, &Input::Mu(mu), hedged)
     }
 
     /// Signs each message with its own 32 random bytes, under one context: `out[i]` becomes the result of
@@ -257,12 +246,23 @@ where
     Matrix<K, L>: HasSet<Set = S>,
     S: Set<Signature = [u8; SIG_LEN]> + SignatureSizes<K, L, SIG_LEN>,
 {
+    /// Verifies the signature of an input: `key.accepts_input(&Input::Message(b"message", b""), &signature)`. Returns
+    /// false if the input is rejected.
+    pub fn accepts_input(&self, input: &Input<'_>, signature: &[u8; SIG_LEN]) -> bool
+        ensures { IsTrue result ↔ VerifiesPrepared S.set H.front self.now signature.now (input_of input.now) }
+    {
+        match ml_dsa::mu_of::<H>(&self.tr, input) {
+            Ok(mu) => ml_dsa::verify_prepared::<K, L, H>(&S::params(), self, &mu, signature),
+            Err(_) => false,
+        }
+    }
+
     /// Verifies the signature of a message (Algorithm 3): `public.prepare()?.verify(b"message", &signature, b"context")`.
     /// Returns false if `ctx` has more than 255 bytes.
     pub fn verify(&self, message: &[u8], signature: &[u8; SIG_LEN], ctx: &[u8]) -> bool
         ensures { IsTrue result ↔ VerifiesPrepared S.set H.front self.now signature.now (plain message.now ctx.now) }
     {
-        Verifier::verify(self, message, signature, ctx)
+        self.accepts_input(&Input::Message(message, ctx), signature)
     }
 
     /// Verifies the signature of a digest (Algorithm 5): `key.hash_verify(&digest, &signature, b"context", &SHA2_256)`.
@@ -277,7 +277,7 @@ where
         ensures { IsTrue result
             ↔ VerifiesPrepared S.set H.front self.now signature.now (hashed hash.now ctx.now hash_oid.now) }
     {
-        Verifier::hash_verify(self, hash, signature, ctx, hash_oid)
+        self.accepts_input(&Input::Digest(hash, ctx, hash_oid), signature)
     }
 
     /// Verifies the signature of a framed message `m` (Algorithm 8): `key.verify_internal(&framed, &signature)`.

@@ -140,7 +140,7 @@ pub trait Signer: Sized {
         message: &[u8],
         ctx: &[u8],
     ) -> Result<Self::Signature, Fault> {
-        self.sign_input(seed, &Input::Message(message, ctx))
+        self.try_sign_with_rng(&mut DummyRng { bytes: *seed }, message, ctx)
     }
 
     /// Signs a digest (Algorithm 4) with 32 random bytes of the generator, which is asked once. `hash_oid` is
@@ -175,7 +175,7 @@ pub trait Signer: Sized {
         ctx: &[u8],
         hash_oid: &[u8],
     ) -> Result<Self::Signature, Fault> {
-        self.sign_input(seed, &Input::Digest(hash, ctx, hash_oid))
+        self.try_hash_sign_with_rng(&mut DummyRng { bytes: *seed }, hash, ctx, hash_oid)
     }
 
     /// Computes the public key of the private key: its `rho` and `tr`, with t1 as in Algorithm 6.

@@ -51,11 +51,13 @@ pub(crate) fn write_read_product<const K: usize, const L: usize>(
     out: &mut Transforms,
 ) -> Option<()> {
     let mut row = [T0; L];
+    let mut values = [T0; L];
+    v.write_values(&mut values);
     let size = 1024 * L;
     for r in 0..K {
         let at = size * r;
         read_row(&bytes[at..at + size], &mut row)?;
-        out.write_row_product(r, &row, v);
+        out.write_row_product(r, &row, &values);
     }
     Some(())
 }

@@ -60,7 +60,8 @@ pub(crate) fn verify_prepared<const K: usize, const L: usize, H: Xof>(
     // NTT(c), A z
     let mut az = Transforms::zeros();
     let c_hat = az.write_transforms_and_factor(&z, &c);
-    az.multiply_by(&pk.a_hat);
+    let mut rows = [R0; K];
+    az.multiply_by(&pk.a_hat, &mut rows);
     is_committed::<K, H>(p, mu, c_tilde, &h, &c_hat, &mut az, &pk.t1_hat)
 }
 

@@ -35,12 +35,17 @@ pub fn partial_reduce64(a: i64) -> i32 {
 
 /// `partial_reduce64` of a sum of at most seven products of numbers below `q`.
 pub(crate) fn reduce_sum(a: i64) -> i32 {
-    partial_reduce32(folded(folded(a)) as i32)
+    partial_reduce32(folded_sum(folded_sum(a)) as i32)
 }
 
 /// A number congruent to `a` and smaller about a thousand times; `2^23` is 8191 modulo `q`.
 fn folded(a: i64) -> i64 {
     a - (a >> 23) * i64::from(Q)
+}
+
+/// `folded` of such a sum: the product is one of numbers of 32 bits, which is one instruction.
+fn folded_sum(a: i64) -> i64 {
+    a - wide_product((a >> 23) as i32, Q)
 }
 
 /// A number congruent to `a` and below `q` in absolute value, for `a` below `2^31 - 2^22` in absolute value.

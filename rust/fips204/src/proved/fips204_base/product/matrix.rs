@@ -1,10 +1,10 @@
 // Made by tools/erase of crates/fips204_base/src/product/matrix.rt. Change that, not this.
 //! The matrix times a vector: the matrix as it stands, or row by row from its seed.
 
-use super::Transforms;
+use super::{Transforms, lanes_of, write_at};
 use crate::proved::fips204_base::fault::Fault;
 use crate::proved::fips204_base::hashing::write_next_row;
-use crate::proved::fips204_base::helpers::vector::place_sum;
+use crate::proved::fips204_base::helpers::vector::write_row_sums;
 use crate::proved::fips204_base::lanes::Lanes;
 use crate::proved::fips204_base::types::{R, T, T0};
 use crate::proved::fips204_base::xof::Xof;
@@ -21,7 +21,7 @@ pub fn write_matrix_product<const K: usize, const L: usize>(
 ) {
     let mut w = Transforms::zeros();
     w.write_transforms(v);
-    w.multiply_by(a);
+    w.multiply_by(a, out);
     w.write_plain(out);
 }
 
@@ -36,37 +36,61 @@ pub fn write_sampled_product<const K: usize, const L: usize, G: Xof>(
 ) -> Result<(), Fault> {
     let mut row = [T0; L];
     let mut ahead = [T0; 4];
+    let mut values = [T0; L];
+    v.write_values(&mut values);
     for r in 0..K {
         write_next_row::<K, L, G>(rho, r, &mut ahead, &mut row)?;
-        out.write_row_product(r, &row, v);
+        out.write_row_product(r, &row, &values);
     }
     Ok(())
 }
 
 impl Transforms {
-    /// Becomes `A v` (Algorithm 48) where it was `v`; the matrix is given by its transforms.
+    /// Becomes `A v` (Algorithm 48) where it was `v`; the matrix is given by its transforms. `rows` is room for those of
+    /// `A v`, so that they don't stay in the frame.
     #[inline(never)]
-    pub fn multiply_by<const K: usize, const L: usize>(&mut self, a: &[[T; L]; K]) {
+    pub fn multiply_by<const K: usize, const L: usize>(
+        &mut self,
+        a: &[[T; L]; K],
+        rows: &mut [R; K],
+    ) {
+        let mut v = [T0; L];
+        write_values(&self.values, &mut v);
+        for r in 0..K {
+            write_row_sums(&a[r], &v, &mut rows[r].0);
+        }
         for n in 0..256usize {
-            self.values[n] = sums_at(a, self.values[n], n);
+            self.values[n] = lanes_of(rows, n);
         }
     }
 
-    /// Polynomial `r` becomes the product of a row of the matrix with `v`; the others stay.
-    pub fn write_row_product<const L: usize>(&mut self, r: usize, row: &[T; L], v: &Transforms) {
+    /// Polynomial `r` becomes the product of a row of the matrix with the vector of these transforms; the others stay.
+    pub fn write_row_product<const L: usize>(&mut self, r: usize, row: &[T; L], v: &[T; L]) {
+        let mut sums = [0; 256];
+        write_row_sums(row, v, &mut sums);
         for n in 0..256usize {
-            let sum = place_sum(row, &v.values[n].to_array(), n);
-            self.values[n] = self.values[n].with_lane(r, sum);
+            self.values[n] = self.values[n].with_lane(r, sums[n]);
         }
+    }
+
+    /// Writes the transforms, one after the other.
+    pub fn write_values<const L: usize>(&self, out: &mut [T; L]) {
+        write_values(&self.values, out);
     }
 }
 
-/// The sums of the products of the rows of the matrix with the lanes, at one place.
-#[inline(always)]
-fn sums_at<const K: usize, const L: usize>(a: &[[T; L]; K], x: Lanes, n: usize) -> Lanes {
-    let mut entries = [0; 8];
-    for r in 0..K {
-        entries[r] = place_sum(&a[r], &x.to_array(), n);
+/// Writes the transforms that are in the lanes.
+fn write_values<const L: usize>(lanes: &[Lanes; 256], out: &mut [T; L]) {
+    for n in 0..256usize {
+        write_values_at(lanes[n], n, out);
     }
-    Lanes::from_array(entries)
+}
+
+/// Writes value `n` of each transform.
+#[inline(always)]
+fn write_values_at<const L: usize>(x: Lanes, n: usize, out: &mut [T; L]) {
+    let entries = x.to_array();
+    for k in 0..L {
+        write_at(&mut out[k].0, n, entries[k]);
+    }
 }

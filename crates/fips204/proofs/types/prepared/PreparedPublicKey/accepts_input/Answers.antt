@@ -1,7 +1,7 @@
 use Rattle.std.proofs.Common.{rules, List, ℕ}
 use Rattle.fips204.proofs.Names.{HasSizes, Accepts, input_of, set_of}
 use Rattle.fips204.proofs.RefusedCalls.{verified_input}
-use Rattle.fips204.proofs.keys.prepared.PreparedPublicKeyVerifier.accepts_input.Goals as goal
+use Rattle.fips204.proofs.types.prepared.PreparedPublicKey.accepts_input.Goals as goal
 
 pub verify_prepared-requires : goal.verify_prepared-requires
 verify_prepared-requires g c =

@@ -1,6 +1,6 @@
 use Rattle.std.proofs.Common.{rules, ◌≡◌, ◌∙◌, Err}
 use Rattle.fips204.proofs.Writing.{written, not_written}
-use Rattle.fips204.proofs.keys.prepared.PreparedPrivateKeySigner.sign_input.Goals as goal
+use Rattle.fips204.proofs.types.PrivateKey.sign_input.Goals as goal
 
 pub returns-in_err-write_signature-clause-answer : goal.returns-in_err-write_signature-clause-answer
 returns-in_err-write_signature-clause-answer g c =

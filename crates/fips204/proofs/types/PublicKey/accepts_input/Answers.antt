@@ -1,7 +1,7 @@
 use Rattle.std.proofs.Common.{rules, List, ℕ}
 use Rattle.fips204.proofs.Names.{HasSizes, Verifies, input_of, set_of}
 use Rattle.fips204.proofs.RefusedCalls.{verified_input}
-use Rattle.fips204.proofs.keys.PublicKeyVerifier.accepts_input.Goals as goal
+use Rattle.fips204.proofs.types.PublicKey.accepts_input.Goals as goal
 
 pub verify_internal-requires : goal.verify_internal-requires
 verify_internal-requires g c =

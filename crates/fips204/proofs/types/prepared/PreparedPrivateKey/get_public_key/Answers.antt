@@ -1,7 +1,7 @@
 use Rattle.std.proofs.Common.{arith, rules}
 use Rattle.fips204.proofs.Names.{HasSizes, set_of}
 use Rattle.fips204.proofs.ParameterSets.{known-set, parts_at_set}
-use Rattle.fips204.proofs.keys.prepared.PreparedPrivateKeySigner.get_public_key.Goals as goal
+use Rattle.fips204.proofs.types.prepared.PreparedPrivateKey.get_public_key.Goals as goal
 
 pub write_high_part-requires : goal.write_high_part-requires
 write_high_part-requires g c =
