@@ -2,10 +2,10 @@
 use Rattle.std.specs.Prelude.{◌≡◌, ◌<◌, ◌≤◌, List, ℕ, [], ◌++◌, length, Result, Err, MatchResult}
 use Rattle.fips204.specs.Framing.{frame}
 use Rattle.fips204_base.specs.declared.fault.Fault.TheVariants.{SignCtx}
-use Rattle.fips204_bytes.specs.Bytes.{IfSized}
-use Rattle.fips204_bytes.specs.declared.refusal.Array.{Array}
-use Rattle.fips204_bytes.specs.declared.refusal.Refusal.{Refusal}
-use Rattle.fips204_bytes.specs.declared.refusal.Refusal.TheVariants.{Library}
+use Rattle.fips204_shake.specs.Bytes.{IfSized}
+use Rattle.fips204_shake.specs.declared.bytes.refusal.Array.{Array}
+use Rattle.fips204_shake.specs.declared.bytes.refusal.Refusal.{Refusal}
+use Rattle.fips204_shake.specs.declared.bytes.refusal.Refusal.TheVariants.{Library}
 use Rattle.fips204_shake.specs.declared.pieces.MessageHasher.{MessageHasher}
 use Rattle.shake.specs.Pieces.{Holds}
 use Rattle.shake.specs.State.{IsSaved}

@@ -10,7 +10,7 @@ ghost use Rattle.fips204.specs.ParameterSets.{ParameterSet, IsSet, set_44, set_6
 ghost use Rattle.fips204.specs.Prepared.{sign_prepared, VerifiesPrepared};
 ghost use Rattle.fips204.specs.PreparedBytes.{prepared_public_length, prepared_private_length};
 ghost use Rattle.fips204.specs.Sets.{named_set};
-ghost use Rattle.fips204_bytes.specs.Bytes.{Generates};
+ghost use Rattle.fips204_shake.specs.Bytes.{Generates};
 ghost use Rattle.fips204_shake.specs.Fronts.{shake256_front, shake128_front};
 ghost use Rattle.shake.specs.Shake.{shake256, shake128};
 
@@ -20,7 +20,7 @@ use crate::{
     ml_dsa_87,
 };
 use fips204_base::Fault;
-use fips204_bytes::{Refusal, SetName};
+use crate::bytes::{Refusal, SetName};
 
 /// The two limits.
 pub(crate) fn limits() -> (usize, u16)

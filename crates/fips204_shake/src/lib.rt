@@ -30,19 +30,21 @@
 //! | use a key many times | `private.prepare()?`, `public.prepare()?`, and the same calls |
 #![tactic(auto)]
 
+pub mod bytes;
 mod callers;
+pub mod der;
 pub mod ml_dsa_44;
 pub mod ml_dsa_65;
 pub mod ml_dsa_87;
 pub mod pieces;
 pub mod streams;
 
+pub use bytes::{Array, Input, Refusal, SetName};
+use bytes::{ByName, Calls};
 pub use fips204::{
     Fault, MAX_PREHASH_LEN, MAX_SIGN_ATTEMPTS, RngError, check_pre_hash, fault, laws, pre_hash,
     traits, xof,
 };
-pub use fips204_bytes::{Array, Input, Refusal, SetName};
-use fips204_bytes::{ByName, Calls};
 use streams::{Shake128Stream, Shake256Stream};
 
 /// The calls of ML-DSA-44 over bytes.

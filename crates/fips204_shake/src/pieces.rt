@@ -8,14 +8,14 @@ ghost use Rattle.fips204.specs.Sets.{named_set};
 ghost use Rattle.fips204_base.specs.declared.fault.Fault.TheVariants.{SignCtx};
 ghost use Rattle.shake.specs.State.{CanBeSaved};
 ghost use Rattle.fips204_shake.specs.Fronts.{shake256_front};
-ghost use Rattle.fips204_bytes.specs.Mu.{tr_of_private, tr_of_public};
-ghost use Rattle.fips204_bytes.specs.declared.refusal.Array.TheVariants.{PublicKey, PrivateKey};
+ghost use Rattle.fips204_shake.specs.Mu.{tr_of_private, tr_of_public};
+ghost use Rattle.fips204_shake.specs.declared.bytes.refusal.Array.TheVariants.{PublicKey, PrivateKey};
 ghost use Rattle.fips204_shake.specs.Pieces.{Hashes, HashesSaved, Begins};
 
 use crate::streams::Shake256Stream;
 use fips204::Fault;
 use fips204::xof::hash;
-use fips204_bytes::{Array, Refusal, SetName};
+use crate::bytes::{Array, Refusal, SetName};
 use shake::Shake256;
 
 /// Hashes a message in pieces (FIPS 204, Algorithm 2 to the message M', and line 6 of Algorithm 7). Contracts say by

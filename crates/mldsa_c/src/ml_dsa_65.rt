@@ -5,7 +5,7 @@ ghost use Rattle.fips204.specs.Framing.{plain, hashed};
 ghost use Rattle.fips204.specs.ParameterSets.{set_65};
 ghost use Rattle.mldsa_c.specs.Calls.{KeygenAnswers, SignAnswers, VerifyAnswers, AcceptsAnswers, SignMuAnswers, VerifyMuAnswers, PublicKeyAnswers, CheckPrivateKeyAnswers, IsWholeAnswers, IsPairAnswers};
 ghost use Rattle.mldsa_c.specs.Pieces.{Begins};
-ghost use Rattle.fips204_bytes.specs.Mu.{tr_of_private, tr_of_public};
+ghost use Rattle.fips204_shake.specs.Mu.{tr_of_private, tr_of_public};
 ghost use Rattle.fips204_shake.specs.Fronts.{shake256_front};
 ghost use Rattle.fips204.specs.ParameterSets.{public_key_length, private_key_length};
 

@@ -4,7 +4,7 @@
 ghost use Rattle.std.specs.Prelude.{◌≡◌};
 ghost use Rattle.mldsa_c.specs.Statuses.{status_of, refusal_status, done_status, answer_status, accepted};
 
-use fips204_bytes::{Fault, Refusal};
+use fips204_shake::bytes::{Fault, Refusal};
 
 /// Done; of a question: yes.
 pub(crate) const DONE: u32 = 0;

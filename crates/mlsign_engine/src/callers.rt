@@ -1,11 +1,11 @@
-//! Callers of the laws, and of clauses of `mlsign_files` and `fips204_der` which say that a key of a file is read: no code calls them.
+//! Callers of the laws, and of clauses of `mlsign_files` and of `fips204_shake::der` which say that a key of a file is read: no code calls them.
 #![tactic(auto)]
 
 ghost use Rattle.std.specs.Prelude.{◌≡◌, ℕ, List, Bool, IfOk, IsTrue, Ok};
 ghost use Rattle.fips204.specs.Sets.{named_set};
 ghost use Rattle.fips204.specs.declared.sets.SetName.{SetName as Name};
-ghost use Rattle.fips204_der.specs.Keys.{IsPrivateFile, IsPublicFile, PrivateParts, private_parts};
-ghost use Rattle.fips204_der.specs.Reading.{Gives};
+ghost use Rattle.fips204_shake.specs.Keys.{IsPrivateFile, IsPublicFile, PrivateParts, private_parts};
+ghost use Rattle.fips204_shake.specs.Reading.{Gives};
 ghost use Rattle.mlsign_engine.specs.Commands.{IsSigned, Judges, MakesTexts};
 ghost use Rattle.mlsign_engine.specs.Forms.{HasPrivate, HasPublic, IsPublicIn, public_in, private_in, read_as};
 ghost use Rattle.mlsign_engine.specs.Keys.{IsConsistent, PairValue, PublicValue, public_of_pair};
@@ -18,7 +18,7 @@ ghost use Rattle.mlsign_files.specs.declared.pem.LineEnd.TheVariants.{Lf};
 use crate::fault::CommandFault;
 use crate::forms::{Form, Parts, read_private_key, read_public_key};
 use crate::laws::{converted_comes_back, keys_are_read, signed_is_valid};
-use fips204_der::{DerFault, PrivateKey, SetName, read_private, read_public};
+use fips204_shake::der::{DerFault, PrivateKey, SetName, read_private, read_public};
 use mlsign_files::pem::{self, Kind};
 use mlsign_files::{FileFault, strict_form};
 use std::alloc::{AllocError, Global};

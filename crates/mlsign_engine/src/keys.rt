@@ -7,13 +7,13 @@ ghost use Rattle.fips204_shake.specs.Fronts.{shake256_front};
 ghost use Rattle.mlsign_engine.specs.Keys.{HasBytes, IsConsistent, public_of_pair};
 ghost use Rattle.mlsign_engine.specs.InnerSteps.{HasPrivateBytes, HasNoKeysOrMemory};
 ghost use Rattle.mlsign_engine.specs.declared.fault.CommandFault.TheVariants.{Memory};
-ghost use Rattle.fips204_der.specs.Keys.{Seed, Expanded, HasPrivateSizes, private_length, public_length, private_parts};
+ghost use Rattle.fips204_shake.specs.Keys.{Seed, Expanded, HasPrivateSizes, private_length, public_length, private_parts};
 
 use crate::fault::CommandFault;
 use fips204::laws;
 use fips204::xof::hash;
-use fips204_bytes::array_of;
-use fips204_der::PrivateKey;
+use fips204_shake::bytes::array_of;
+use fips204_shake::der::PrivateKey;
 use fips204_shake::streams::Shake256Stream;
 use fips204_shake::{MlDsa, SetName};
 use std::alloc::Global;
@@ -29,7 +29,7 @@ pub struct PublicKey {
 impl Model for PublicKey {
     ghost use Rattle.std.specs.Prelude.{◌≡◌, length};
     ghost use Rattle.mlsign_engine.specs.Keys.{PublicValue};
-    ghost use Rattle.fips204_der.specs.Keys.{public_length};
+    ghost use Rattle.fips204_shake.specs.Keys.{public_length};
 
     ghost Value = { PublicValue };
 

@@ -4,8 +4,8 @@
 ghost use Rattle.std.specs.Prelude.{◌≡◌, ◌≤◌, length, take, drop, IfOk, IfErr};
 ghost use Rattle.fips204.specs.Framing.{represented};
 ghost use Rattle.fips204.specs.Sets.{named_set};
-ghost use Rattle.fips204_bytes.specs.Bytes.{Signs, Judges};
-ghost use Rattle.fips204_der.specs.Keys.{public_length};
+ghost use Rattle.fips204_shake.specs.Bytes.{Signs, Judges};
+ghost use Rattle.fips204_shake.specs.Keys.{public_length};
 ghost use Rattle.fips204_shake.specs.Fronts.{shake256_front, shake128_front};
 ghost use Rattle.mlsign_engine.specs.Commands.{FailsToPrepare};
 ghost use Rattle.mlsign_engine.specs.Keys.{IsConsistent};
@@ -13,7 +13,7 @@ ghost use Rattle.mlsign_engine.specs.declared.fault.CommandFault.TheVariants.{Me
 
 use crate::fault::CommandFault;
 use crate::keys::{KeyPair, PublicKey};
-use fips204_bytes::laws;
+use fips204_shake::bytes::laws;
 use fips204_shake::{Input, MlDsa, Refusal, SetName};
 use std::alloc::Global;
 use std::marker::Model;
@@ -103,7 +103,7 @@ impl Model for VerifyingKey {
     ghost use Rattle.std.specs.Prelude.{◌≡◌, length, take};
     ghost use Rattle.fips204_shake.specs.Fronts.{shake256_front};
     ghost use Rattle.mlsign_engine.specs.Keys.{PublicValue, ArePreparedPublicOf};
-    ghost use Rattle.fips204_der.specs.Keys.{public_length};
+    ghost use Rattle.fips204_shake.specs.Keys.{public_length};
 
     ghost Value = { PublicValue };
 

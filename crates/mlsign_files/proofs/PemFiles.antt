@@ -15,7 +15,7 @@ use Rattle.mlsign_files.specs.declared.pem.LineEnd.{LineEnd}
 use Rattle.mlsign_files.specs.declared.pem.LineEnd.TheVariants.{Lf, CrLf}
 use Rattle.mlsign_files.specs.Pem.{begin_line, line_end, wrapped, closing, pem, IsPem}
 use Rattle.mlsign_files.specs.PemReading.{begins, ended_at, opened_at, is_dash, closed_at, is_in_line, unwrapped_at, pem_at}
-use Rattle.fips204_der.proofs.Elements.{chosen, ok_is, met, same_bytes}
+use Rattle.fips204_shake.proofs.Elements.{chosen, ok_is, met, same_bytes}
 use Rattle.mlsign_files.proofs.Texts.{wrapped_kept, wrapped_pass, encoded_passes, first_place}
 
 -- ---- what is read is what is there

@@ -1,6 +1,6 @@
 -- What reading DER gives, its fault as a file's.
 use Rattle.std.specs.Prelude.{Result, Ok, Err}
-use Rattle.fips204_der.specs.declared.fault.DerFault.{DerFault}
+use Rattle.fips204_shake.specs.declared.der.fault.DerFault.{DerFault}
 use Rattle.mlsign_files.specs.declared.fault.FileFault.{FileFault}
 use Rattle.mlsign_files.specs.declared.fault.FileFault.TheVariants.{Der}
 

@@ -11,7 +11,7 @@ use Rattle.mlsign_files.specs.declared.pem.Kind.{Kind}
 use Rattle.mlsign_files.specs.declared.pem.LineEnd.{LineEnd}
 use Rattle.mlsign_files.specs.declared.pem.LineEnd.TheVariants.{Lf, CrLf}
 use Rattle.mlsign_files.specs.Pem.{begin_line, line_end, closing, wrapped}
-use Rattle.fips204_der.specs.Reading.{◌>>=◌}
+use Rattle.fips204_shake.specs.Reading.{◌>>=◌}
 
 -- what a function returned, seen by view, is what reading gives, unless memory ran out
 abbrev pub FailsLike : {Y : Type 0} → FileFault → Result Y FileFault → Type 0

@@ -4,7 +4,7 @@
 ghost use Rattle.std.specs.Prelude.{◌≡◌};
 ghost use Rattle.mlsign_files.specs.declared.fault.FileFault.TheVariants.{Memory};
 
-use fips204_der::DerFault;
+use fips204_shake::der::DerFault;
 use std::alloc::AllocError;
 use thiserror::Error;
 

@@ -9,7 +9,7 @@ ghost use Rattle.base64.specs.Engines.{standard};
 ghost use Rattle.mlsign_files.specs.Pem.{begin_line, end_line, line_end, wrapped, closing, pem, IsPem};
 ghost use Rattle.mlsign_files.specs.PemReading.{GivesOrFails, ended_at, opened_at, is_dash};
 ghost use Rattle.mlsign_files.specs.PemReading.{closed_at, unwrapped_at, decoded_as, pem_at};
-ghost use Rattle.fips204_der.specs.Reading.{Gives};
+ghost use Rattle.fips204_shake.specs.Reading.{Gives};
 ghost use Rattle.mlsign_files.specs.declared.pem.LineEnd.TheVariants.{Lf};
 
 use crate::fault::FileFault;

@@ -5,7 +5,7 @@ use crate::recorded::{
     SIGNATURE_65, SIGNATURE_87,
 };
 use base64::engine::general_purpose::STANDARD;
-use fips204_der::{DerFault, PrivateKey, SetName, write_private};
+use fips204_shake::der::{DerFault, PrivateKey, SetName, write_private};
 use fips204_shake::Fault;
 use mlsign_engine::{
     AnyKey, CommandFault, Form, KeyPair, Parts, PublicKey, Reader, SigningKey, VerifyingKey,

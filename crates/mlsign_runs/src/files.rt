@@ -1,7 +1,7 @@
 //! Files of OpenSSL, and files that are none.
 
 use crate::recorded::{PRIVATE_44, PRIVATE_65, PRIVATE_87, PUBLIC_44, PUBLIC_65, PUBLIC_87, SEED};
-use fips204_der::{
+use fips204_shake::der::{
     DerFault, PrivateKey, SetName, read_private, read_public, write_private, write_public,
 };
 use mlsign_files::pem::{self, Kind};
