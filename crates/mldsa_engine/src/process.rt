@@ -6,7 +6,7 @@ ghost use Rattle.std.specs.Process.{exit_status};
 ghost use Rattle.mldsa_engine.specs.ProgramText.{AnswersCall, status_of};
 
 use crate::from_words;
-use mldsa_lines::{Marked, RunFault};
+use crate::{Marked, RunFault};
 use std::env;
 use std::io::{ErrorKind, Read, Write};
 use std::process::ExitCode;

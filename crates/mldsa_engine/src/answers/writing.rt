@@ -5,7 +5,7 @@ ghost use Rattle.std.specs.Prelude.{◌≡◌, ◌↔◌, ◌++◌, ◌∷◌, [
 ghost use Rattle.mldsa_engine.specs.ProgramText.{text, hex_text, answer_word, Refuses};
 
 use fips204::Fault;
-use mldsa_lines::RunFault;
+use crate::RunFault;
 use std::alloc::Global;
 
 /// The result of a command.
