@@ -6,6 +6,8 @@ mod arithmetic;
 #[cfg(test)]
 mod keys;
 #[cfg(test)]
+mod program;
+#[cfg(test)]
 mod signatures;
 #[cfg(test)]
 mod streams;
