@@ -13,7 +13,7 @@ import tempfile
 from common import TOP, archives, command, text
 
 # What a call from C, Rust or JavaScript runs.
-CRATES = ("fips204_base", "fips204", "fips204_bytes", "shake", "fips204_shake", "mldsa_c")
+CRATES = ("fips204_base", "fips204", "shake", "fips204_shake", "mldsa_c")
 TABLE = "bench/table.md"
 
 

@@ -1,4 +1,4 @@
-"""Records what the Rust returns for a fixed list of cases, for the test `rust_answers` of crates/mldsa_runs.
+"""Records what the Rust returns for a fixed list of cases, for the test `rust_answers` of crates/mldsa_bench.
 
 A case is a number from 0 to 19 at a set. Its bytes follow from the number, as `case` says; the test says the same in
 its own words. Of each case a SHA-256 is kept, of the SHA-256 of each result's output and status.
@@ -11,7 +11,7 @@ from common import TOP
 from comparison.build import lines_of, run
 from comparison.cases import SIZES
 
-FILE = TOP / "crates/mldsa_runs/src/program/rust_crate.rt"
+FILE = TOP / "crates/mldsa_bench/src/program/rust_crate.rt"
 HEAD = """\
 //! What the Rust crate fips204 0.5.0 returns in the cases of `program::rust_answers`, as `bench/against-rust --record`
 //! writes it: for each of 20 cases a SHA-256, of the SHA-256 of what is written and of the status, a byte, by `keygen`,
@@ -64,7 +64,7 @@ def case(driver, parameters, number, signature):
 
 
 def write(driver):
-    """Writes the Rust's results as a file of crates/mldsa_runs."""
+    """Writes the Rust's results as a file of crates/mldsa_bench."""
     text = HEAD
     for parameters in SIZES:
         digests, signature, kinds = "", b"", {}

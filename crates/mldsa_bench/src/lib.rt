@@ -11,4 +11,5 @@ mod program;
 mod signatures;
 #[cfg(test)]
 mod streams;
-pub mod values;
+#[cfg(test)]
+mod values;

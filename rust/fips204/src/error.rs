@@ -1,6 +1,6 @@
 //! Why a call returns an error.
 
-use crate::proved::fips204_bytes::Refusal;
+use crate::proved::fips204_shake::bytes::Refusal;
 
 /// The error of each call with a key or a hasher that `zeroize` wiped.
 pub(crate) const WIPED: &str = "the key or the hasher was wiped";
@@ -37,7 +37,7 @@ impl core::error::Error for Refusal {}
 
 #[cfg(test)]
 mod tests {
-    use crate::proved::fips204_bytes::{Array, Fault, Refusal};
+    use crate::proved::fips204_shake::bytes::{Array, Fault, Refusal};
     use crate::proved::mldsa_c::{statuses::status_of_refusal, texts::mldsa_text_of};
 
     /// The texts are those that C has.

@@ -4,12 +4,12 @@
 use crate::Error;
 use crate::error::{WRONG_LENGTH, why};
 use crate::pieces::MessageHasher;
-use crate::proved::fips204_bytes::{Input, Refusal, SetName};
+use crate::proved::fips204_shake::bytes::{Input, Refusal, SetName};
 use crate::proved::fips204_shake::MlDsa;
 use crate::traits::{SerDes, Signer, Verifier};
 use crate::wiped::{Held, Wiped, held, shows_nothing, wipe};
 #[cfg(feature = "rand_core")]
-use crate::{CryptoRng, RngCore, proved::fips204_bytes::Fault, rng::draw};
+use crate::{CryptoRng, RngCore, proved::fips204_shake::bytes::Fault, rng::draw};
 
 /// A parameter set, by the lengths of a public key, a private key and a signature.
 #[derive(Debug)]
@@ -520,10 +520,10 @@ macro_rules! parameter_set {
         use crate::wiped::{Held, Wiped, held, shows_nothing};
         use crate::Error;
         use crate::error::why;
-        use crate::proved::fips204_bytes::{Input, SetName};
+        use crate::proved::fips204_shake::bytes::{Input, SetName};
         use crate::proved::fips204_shake::MlDsa;
         #[cfg(feature = "rand_core")]
-        use crate::{CryptoRng, RngCore, rng::draw, proved::fips204_bytes::Fault};
+        use crate::{CryptoRng, RngCore, rng::draw, proved::fips204_shake::bytes::Fault};
 
         /// The number of bytes of a private key.
         pub const SK_LEN: usize = $sk_len;

@@ -10,7 +10,7 @@ use crate::rng::system;
 use crate::{
     CryptoRng, RngCore,
     proved::fips204::ml_dsa::check_input,
-    proved::fips204_bytes::{Fault, Input},
+    proved::fips204_shake::bytes::{Fault, Input},
     rng::{draw, fixed},
     wiped::Wiped,
 };

@@ -51,7 +51,7 @@ pub use crate::proved::fips204::{MAX_PREHASH_LEN, MAX_SIGN_ATTEMPTS, check_pre_h
 pub use crate::proved::fips204_base::xof::{Fill, FillReader, FrontReader};
 #[cfg(feature = "sha2")]
 pub use crate::proved::fips204_base::xof::{Sha256Ctr, Sha256CtrLong, Sha512Ctr, Sha512CtrLong};
-pub use crate::proved::fips204_bytes::{
+pub use crate::proved::fips204_shake::bytes::{
     Array, ByName, Calls, Fault, Input, MlDsa44, MlDsa65, MlDsa87, Refusal, SetName,
 };
 pub use crate::proved::fips204_shake::streams::{Shake128Stream, Shake256Stream};

@@ -1,11 +1,11 @@
 //! Inputs and outputs, spelt with words for recorded bytes.
 #![tactic(auto)]
 
-use mldsa_bench::values::constant_streams::{
+use crate::values::constant_streams::{
     private_44, private_65, private_87, public_44, public_65, public_87, signature_44,
     signature_44_of_least_coefficient, signature_65, signature_87,
 };
-use mldsa_bench::values::recorded;
+use crate::values::recorded;
 use std::alloc::{AllocError, Global};
 
 /// What a word names at a set over the counter XOFs, in hex or as a result. Any other word is itself.

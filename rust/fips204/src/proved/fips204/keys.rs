@@ -1,11 +1,12 @@
 // Made by tools/erase of crates/fips204/src/keys.rt. Change that, not this.
 //! The calls of the keys of every parameter set: making a pair, signing, verifying, and keys as bytes. What signs is
-//! `sign_input` and what verifies `accepts_input`; the traits `Signer` and `Verifier` have the other calls, over these
-//! two.
+//! `sign_input` and what verifies `accepts_input`: the calls of `Signer` and `Verifier` are these two, over a message or
+//! a digest.
 
 mod prepared;
 mod prepared_bytes;
 mod prepared_calls;
+mod random;
 
 use crate::proved::fips204::input::Input;
 use crate::proved::fips204::ml_dsa;
@@ -22,6 +23,7 @@ use crate::proved::fips204_base::hashing::write_expanded_a;
 use crate::proved::fips204_base::product::Transforms;
 use crate::proved::fips204_base::xof::Xof;
 use core::marker::PhantomData;
+use random::{SignsInput, sign_drawn, sign_hedged, sign_seeded};
 
 // Every head below says the same: `S` is the parameter set that `Matrix<K, L>` names, and the arrays of `S` name the
 // other sizes: `SIG_LEN` bytes of a signature, `PK_LEN` and `SK_LEN` of the keys. That these are the set's
@@ -110,10 +112,47 @@ where
 
     type PublicKey = PublicKey<K, L, H, G>;
 
-    fn sign_input(&self, seed: &[u8; 32], input: &Input<'_>) -> Result<[u8; SIG_LEN], Fault> {
-        let mut signature = [0u8; SIG_LEN];
-        self.write_signature(seed, input, &mut signature)?;
-        Ok(signature)
+    fn try_sign_with_rng<R: CryptoRngCore>(
+        &self,
+        rng: &mut R,
+        message: &[u8],
+        ctx: &[u8],
+    ) -> Result<[u8; SIG_LEN], Fault> {
+        sign_drawn(self, rng, &Input::Message(message, ctx), Fault::SignRng)
+    }
+
+    fn try_sign_with_seed(
+        &self,
+        seed: &[u8; 32],
+        message: &[u8],
+        ctx: &[u8],
+    ) -> Result<[u8; SIG_LEN], Fault> {
+        sign_seeded(self, seed, &Input::Message(message, ctx))
+    }
+
+    fn try_hash_sign_with_rng<R: CryptoRngCore>(
+        &self,
+        rng: &mut R,
+        hash: &[u8],
+        ctx: &[u8],
+        hash_oid: &[u8],
+    ) -> Result<[u8; SIG_LEN], Fault> {
+        sign_drawn(
+            self,
+            rng,
+            &Input::Digest(hash, ctx, hash_oid),
+            Fault::HashRng,
+        )
+    }
+
+    fn try_hash_sign_with_seed(
+        &self,
+        seed: &[u8; 32],
+        hash: &[u8],
+        ctx: &[u8],
+        hash_oid: &[u8],
+    ) -> Result<[u8; SIG_LEN], Fault> {
+        sign_seeded(self, seed, &Input::Digest(hash, ctx, hash_oid))
     }
 
     fn get_public_key(&self) -> Result<PublicKey<K, L, H, G>, Fault> {
@@ -131,13 +170,33 @@ where
 {
     type Signature = [u8; SIG_LEN];
 
-    fn accepts_input(&self, input: &Input<'_>, signature: &[u8; SIG_LEN]) -> bool {
-        match ml_dsa::mu_of::<H>(&self.tr, input) {
-            Ok(mu) => {
-                ml_dsa::verify_internal::<K, L, SIG_LEN, H, G>(&S::params(), self, &mu, signature)
-            }
-            Err(_) => false,
-        }
+    fn verify(&self, message: &[u8], signature: &[u8; SIG_LEN], ctx: &[u8]) -> bool {
+        self.accepts_input(&Input::Message(message, ctx), signature)
+    }
+
+    fn hash_verify(
+        &self,
+        hash: &[u8],
+        signature: &[u8; SIG_LEN],
+        ctx: &[u8],
+        hash_oid: &[u8],
+    ) -> bool {
+        self.accepts_input(&Input::Digest(hash, ctx, hash_oid), signature)
+    }
+}
+
+impl<S, const K: usize, const L: usize, const SIG_LEN: usize, H, G> SignsInput
+    for PrivateKey<K, L, H, G>
+where
+    H: Xof,
+    G: Xof,
+    Matrix<K, L>: HasSet<Set = S>,
+    S: Set<Signature = [u8; SIG_LEN]> + SignatureSizes<K, L, SIG_LEN>,
+{
+    type Signature = [u8; SIG_LEN];
+
+    fn sign_with(&self, random: &[u8; 32], input: &Input<'_>) -> Result<[u8; SIG_LEN], Fault> {
+        self.sign_input(random, input)
     }
 }
 
@@ -155,7 +214,17 @@ where
         &self.tr
     }
 
-    /// Writes what `sign_input` returns: `private.write_signature(&random, &input, &mut signature)?`.
+    /// Signs an input with the random bytes `seed`; 32 zeros give the deterministic variant.
+    ///
+    /// Errors: those of a message and of a digest, as the calls of `Signer` say, for these inputs; then
+    /// `Fault::SamplingLimit` and `Fault::TooManyAttempts` as for `Signer::try_sign_with_seed`.
+    pub fn sign_input(&self, seed: &[u8; 32], input: &Input<'_>) -> Result<[u8; SIG_LEN], Fault> {
+        let mut signature = [0u8; SIG_LEN];
+        self.write_signature(seed, input, &mut signature)?;
+        Ok(signature)
+    }
+
+    /// Like `sign_input`, but signs into the caller's array: `private.write_signature(&random, &input, &mut signature)?`.
     ///
     /// Errors: those of `sign_input`; `signature` is then as it was.
     pub fn write_signature(
@@ -179,7 +248,7 @@ where
         m: &[u8],
         hedged: bool,
     ) -> Result<[u8; SIG_LEN], Fault> {
-        self.sign_input_with_rng(rng, &Input::Framed(m), hedged)
+        sign_hedged(self, rng, &Input::Framed(m), hedged)
     }
 
     /// Signs the hash `mu` of a framed message (Algorithm 7 from line 7 on). Random bytes and errors are
@@ -190,7 +259,7 @@ where
         mu: &[u8; 64],
         hedged: bool,
     ) -> Result<[u8; SIG_LEN], Fault> {
-        self.sign_input_with_rng(rng, &Input::Mu(mu), hedged)
+        sign_hedged(self, rng, &Input::Mu(mu), hedged)
     }
 
     /// Tells whether the key is consistent: whether its t0 is the low part of `A s1 + s2` (Algorithm 6, lines 5
@@ -253,6 +322,16 @@ where
     Matrix<K, L>: HasSet<Set = S>,
     S: Set<Signature = [u8; SIG_LEN]> + SignatureSizes<K, L, SIG_LEN>,
 {
+    /// Verifies the signature of an input. Returns false if the input is rejected.
+    pub fn accepts_input(&self, input: &Input<'_>, signature: &[u8; SIG_LEN]) -> bool {
+        match ml_dsa::mu_of::<H>(&self.tr, input) {
+            Ok(mu) => {
+                ml_dsa::verify_internal::<K, L, SIG_LEN, H, G>(&S::params(), self, &mu, signature)
+            }
+            Err(_) => false,
+        }
+    }
+
     /// Verifies the signature of a framed message `m` (Algorithm 8).
     pub fn verify_internal(&self, m: &[u8], sig: &[u8; SIG_LEN]) -> bool {
         self.accepts_input(&Input::Framed(m), sig)

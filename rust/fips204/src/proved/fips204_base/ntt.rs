@@ -67,11 +67,9 @@ pub(crate) fn write_ntt<V: Residue>(w: &mut [V; 256], meter: &mut V::Meter) {
 /// The butterflies of a transform, or those of its inverse.
 trait Butterfly: Sized {
     /// The power of zeta of block `b` of `count`.
-    #[inline(always)]
     fn power(count: usize, b: usize) -> usize;
 
     /// One butterfly.
-    #[inline(always)]
     fn apply<V: Residue>(a: V, b: V, m: usize, meter: &mut V::Meter) -> (V, V);
 }
 

@@ -30,6 +30,8 @@
 //! | verify it | `public.hash_verify(digest, &signature, context, &SHA2_256)` |
 //! | use a key many times | `private.prepare()?`, `public.prepare()?`, and the same calls |
 
+pub mod bytes;
+pub mod der;
 pub mod ml_dsa_44;
 pub mod ml_dsa_65;
 pub mod ml_dsa_87;
@@ -40,8 +42,8 @@ pub use crate::proved::fips204::{
     Fault, MAX_PREHASH_LEN, MAX_SIGN_ATTEMPTS, RngError, check_pre_hash, fault, pre_hash, traits,
     xof,
 };
-pub use crate::proved::fips204_bytes::{Array, Input, Refusal, SetName};
-use crate::proved::fips204_bytes::{ByName, Calls};
+pub use bytes::{Array, Input, Refusal, SetName};
+use bytes::{ByName, Calls};
 use streams::{Shake128Stream, Shake256Stream};
 
 /// The calls of ML-DSA-44 over bytes.

@@ -3,7 +3,7 @@
 
 use crate::proved::fips204::Fault;
 use crate::proved::fips204::xof::hash;
-use crate::proved::fips204_bytes::{Array, Refusal, SetName};
+use crate::proved::fips204_shake::bytes::{Array, Refusal, SetName};
 use crate::proved::fips204_shake::streams::Shake256Stream;
 use crate::proved::shake::Shake256;
 

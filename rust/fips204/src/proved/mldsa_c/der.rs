@@ -1,8 +1,8 @@
 // Made by tools/erase of crates/mldsa_c/src/der.rt. Change that, not this.
 //! Keys in DER (RFC 9881): what the exports of each set do.
 
-use crate::proved::fips204_bytes::array_of;
-use crate::proved::fips204_der::{
+use crate::proved::fips204_shake::bytes::array_of;
+use crate::proved::fips204_shake::der::{
     DerFault, PrivateKey, read_private, read_public, write_private, write_public,
 };
 use crate::proved::fips204_shake::{Fault, MlDsa, Refusal, SetName};

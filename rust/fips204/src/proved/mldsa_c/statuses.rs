@@ -1,7 +1,7 @@
 // Made by tools/erase of crates/mldsa_c/src/statuses.rt. Change that, not this.
 //! The numbers that the exports return.
 
-use crate::proved::fips204_bytes::{Fault, Refusal};
+use crate::proved::fips204_shake::bytes::{Fault, Refusal};
 
 /// Done; of a question: yes.
 pub(crate) const DONE: u32 = 0;

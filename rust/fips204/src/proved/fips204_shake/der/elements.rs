@@ -1,7 +1,7 @@
-// Made by tools/erase of crates/fips204_der/src/der.rt. Change that, not this.
+// Made by tools/erase of crates/fips204_shake/src/der/elements.rt. Change that, not this.
 //! The elements of DER.
 
-use crate::proved::fips204_der::fault::DerFault;
+use crate::proved::fips204_shake::der::fault::DerFault;
 
 pub(crate) const INTEGER: u8 = 2;
 

@@ -1,4 +1,4 @@
-// Made by tools/erase of crates/fips204_bytes/src/refusal.rt. Change that, not this.
+// Made by tools/erase of crates/fips204_shake/src/bytes/refusal.rt. Change that, not this.
 //! Why a call does nothing.
 
 use crate::proved::fips204::Fault;

@@ -1,4 +1,4 @@
-// Made by tools/erase of crates/fips204_bytes/src/calls.rt. Change that, not this.
+// Made by tools/erase of crates/fips204_shake/src/bytes/calls.rt. Change that, not this.
 //! The calls at one parameter set, as a type.
 //!
 //! A call looks at the lengths, and the function that it then calls does the work, outside its frame.
@@ -10,8 +10,8 @@ use crate::proved::fips204::types::{
     KG, PreparedPrivateKey, PreparedPublicKey, PrivateKey, PublicKey,
 };
 use crate::proved::fips204::xof::Xof;
-use crate::proved::fips204_bytes::refusal::{Array, Refusal};
-use crate::proved::fips204_bytes::slices::array_of;
+use crate::proved::fips204_shake::bytes::refusal::{Array, Refusal};
+use crate::proved::fips204_shake::bytes::slices::array_of;
 use core::marker::PhantomData;
 
 /// ML-DSA (FIPS 204) over bytes at one parameter set: the one whose matrix has `K` rows and `L` columns, over the XOFs `H`

@@ -1,4 +1,4 @@
-// Made by tools/erase of crates/fips204_der/src/fault.rt. Change that, not this.
+// Made by tools/erase of crates/fips204_shake/src/der/fault.rt. Change that, not this.
 //! What is wrong with the DER of a key.
 
 /// Why bytes are not a key in DER: the first fault from their beginning.

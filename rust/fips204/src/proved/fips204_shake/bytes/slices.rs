@@ -1,4 +1,4 @@
-// Made by tools/erase of crates/fips204_bytes/src/slices.rt. Change that, not this.
+// Made by tools/erase of crates/fips204_shake/src/bytes/slices.rt. Change that, not this.
 //! Slices as arrays.
 
 /// Bytes of a known number as an array, where they lie.

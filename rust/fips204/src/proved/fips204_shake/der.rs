@@ -1,8 +1,8 @@
-// Made by tools/erase of crates/fips204_der/src/lib.rt. Change that, not this.
+// Made by tools/erase of crates/fips204_shake/src/der.rt. Change that, not this.
 //! Keys of ML-DSA in DER (RFC 9881), read where they lie and written into the arrays of the caller. Of ML-DSA only the names
 //! of the parameter sets and their lengths are used.
 
-mod der;
+mod elements;
 mod fault;
 mod keys;
 

@@ -1,11 +1,11 @@
-// Made by tools/erase of crates/fips204_der/src/keys.rt. Change that, not this.
+// Made by tools/erase of crates/fips204_shake/src/der/keys.rt. Change that, not this.
 //! Keys in DER (RFC 9881).
 
 use crate::proved::fips204::SetName;
-use crate::proved::fips204_der::der::{
+use crate::proved::fips204_shake::der::elements::{
     BIT_STRING, CONTEXT_0, INTEGER, OCTET_STRING, SEQUENCE, element, front, put, whole,
 };
-use crate::proved::fips204_der::fault::DerFault;
+use crate::proved::fips204_shake::der::fault::DerFault;
 
 /// How many bytes a seed has.
 pub const SEED_LENGTH: usize = 32;

@@ -1,4 +1,4 @@
-// Made by tools/erase of crates/fips204_bytes/src/lib.rt. Change that, not this.
+// Made by tools/erase of crates/fips204_shake/src/bytes.rt. Change that, not this.
 //! ML-DSA (FIPS 204) over bytes: the calls of `fips204` with keys and signatures as slices.
 //!
 //! Each call is there twice: of a parameter set that is known when the program is written, as `MlDsa65::<H, G>::sign`,
