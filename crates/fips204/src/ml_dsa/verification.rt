@@ -20,7 +20,7 @@ ghost use Rattle.fips204.specs.Sets.{HasSizes, set_of};
 
 use super::commitment_hash::write_commitment_hash;
 use super::matrix_bytes::{check_matrix, write_read_product};
-use super::rejection::has_norm_below;
+use super::signing::has_norm_below;
 use crate::types::{Params, PreparedPublicKey, PublicKey, R, R0};
 use fips204_base::D;
 use fips204_base::encodings::write_signature_parts;

@@ -3,7 +3,7 @@
 
 use super::commitment_hash::write_commitment_hash;
 use super::matrix_bytes::{check_matrix, write_read_product};
-use super::rejection::has_norm_below;
+use super::signing::has_norm_below;
 use crate::proved::fips204::types::{Params, PreparedPublicKey, PublicKey, R, R0};
 use crate::proved::fips204_base::D;
 use crate::proved::fips204_base::encodings::write_signature_parts;

@@ -1,6 +1,6 @@
 use Rattle.std.proofs.Common.{◌≡◌, ◌≤◌, ◌+◌, ◌*◌, length, take}
 use Rattle.fips204.proofs.Names.{all_ones, ones_below}
-use Rattle.fips204.proofs.ml_dsa.rejection.number_of_ones.Given as goal
+use Rattle.fips204.proofs.ml_dsa.signing.number_of_ones.Given as goal
 
 abbrev pub invariant-loop-row : goal.invariant-loop-row
 invariant-loop-row g l = record {

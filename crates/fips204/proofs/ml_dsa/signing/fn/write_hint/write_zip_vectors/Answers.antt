@@ -1,7 +1,7 @@
 use Rattle.std.proofs.Common.{rules, pos, true, false, ◌+ℤ◌, ◌-ℤ◌, w32, nat_abs}
 use Rattle.fips204.proofs.Names.{to_z-of_z}
 use Rattle.fips204.proofs.RejectionChecks.{hint_bit-is}
-use Rattle.fips204.proofs.ml_dsa.rejection.fn.write_hint.write_zip_vectors.Goals as goal
+use Rattle.fips204.proofs.ml_dsa.signing.fn.write_hint.write_zip_vectors.Goals as goal
 
 pub returns-then-make_hint : goal.returns-then-make_hint
 returns-then-make_hint c =

@@ -1,7 +1,7 @@
 use Rattle.std.proofs.Common.{rules, ◌∙◌, w32}
 use Rattle.fips204.proofs.Names.{to_z-of_z}
 use Rattle.fips204.proofs.RejectionChecks.{low_bits-small}
-use Rattle.fips204.proofs.ml_dsa.rejection.fn.write_low_vector.write_zip_vectors.Goals as goal
+use Rattle.fips204.proofs.ml_dsa.signing.fn.write_low_vector.write_zip_vectors.Goals as goal
 
 pub returns : goal.returns
 returns c =

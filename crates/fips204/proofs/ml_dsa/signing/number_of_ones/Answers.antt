@@ -1,7 +1,7 @@
 use Rattle.std.proofs.Common.{rules, arith, ◌≡◌, pos, true, false, length, get_or, ◌∙◌, ap, w32, SFits, add-one, length-append, [], ◌∷◌}
 use Rattle.fips204.proofs.Names.{to_z-of_z, R, is_one, ones_below, all_ones-none, total_more, ones-none, is_one-test, ones-keep, ones-skip}
-use Rattle.fips204.proofs.ml_dsa.rejection.number_of_ones.Goals as goal
-use Rattle.fips204.proofs.ml_dsa.rejection.number_of_ones.Goals.{then-row-n-gt0, else-row-n-gt0}
+use Rattle.fips204.proofs.ml_dsa.signing.number_of_ones.Goals as goal
+use Rattle.fips204.proofs.ml_dsa.signing.number_of_ones.Goals.{then-row-n-gt0, else-row-n-gt0}
 
 pub loop-row-init : goal.loop-row-init
 loop-row-init g c =

@@ -2,9 +2,9 @@ use Rattle.std.proofs.Common.{rules, arith, ◌≡◌, ◌∙◌, ◌-◌, lengt
 use Rattle.fips204.proofs.Names.{to_z-of_z, ints, lt-leb, le-leb, all_ones, vector_norm, vector_coefficients, response, low_vector, ct0, hint_vector, set_of}
 use Rattle.fips204.proofs.RejectionChecks.{IsDifference, multiple-equal, by_tests, response-is, difference-is, low-is, ct0-is, hint-is, response-range, hint-range}
 use Rattle.fips204.proofs.ParameterSets.{limits, rounding-some, signature-shape}
-use Rattle.fips204.proofs.ml_dsa.signing.SigningKey.rejection_checks.Given.{Over}
-use Rattle.fips204.proofs.ml_dsa.signing.SigningKey.rejection_checks.Goals as goal
-use Rattle.fips204.proofs.ml_dsa.signing.SigningKey.rejection_checks.Goals.{After-has_norm_below, After-has_norm_below-2, After-has_norm_below-3, After-number_of_ones}
+use Rattle.fips204.proofs.ml_dsa.signing.SigningKey.finish_attempt.Given.{Over}
+use Rattle.fips204.proofs.ml_dsa.signing.SigningKey.finish_attempt.Goals as goal
+use Rattle.fips204.proofs.ml_dsa.signing.SigningKey.finish_attempt.Goals.{After-has_norm_below, After-has_norm_below-2, After-has_norm_below-3, After-number_of_ones}
 
 -- z is y + c s1, and what the test of its norm says
 response-here : (g : Over) (c : After-has_norm_below g) → c.write_centred_sum.new.z ≡ response (set_of c.args.p.now) c.self.inside.key.now c.args.y.now c.args.c.now
@@ -83,10 +83,10 @@ returns-then-number_of_ones-p-clause-answer g c =
     (sym c.if-not-has_norm_below.false ∙ first g at.After-has_norm_below) (sym c.if-not-has_norm_below-2.false ∙ second g at.After-has_norm_below-2)
     (sym c.if-not-has_norm_below-3.false ∙ third g at.After-has_norm_below-3) (sym (lt-leb _ _ (rw (to_z-of_z w32 c.args.p.now.omega (search rules), count) at c.if-number_of_ones-p.true))))
 
-pub write_signature-requires : goal.write_signature-requires
-write_signature-requires g c =
+pub write_encoded_signature-requires : goal.write_encoded_signature-requires
+write_encoded_signature-requires g c =
     let p = c.args.p.now in
-    let at = goal.at.write_signature-requires g c in
+    let at = goal.at.write_encoded_signature-requires g c in
     let gamma1 = to_z-of_z w32 p.gamma1 (search rules) in
     let shape = signature-shape p _ _ _ _ _ _ (search rules) c.requires.inputs.sizes c.requires.inputs.commitment gamma1 (to_z-of_z w32 p.omega (search rules)) in
     let test = sym c.if-not-has_norm_below.false ∙ (rw c.z_bound.ensures at c.has_norm_below.ensures) in
@@ -101,7 +101,7 @@ returns-clause-answer g c =
     let omega_is = to_z-of_z w32 c.args.p.now.omega (search rules) in
     let hint = hint-here g at.After-number_of_ones in
     let count = c.number_of_ones.ensures ∙ ap (λ h. length (all_ones h)) hint in
-    rw (sym c.self.view_is) (ap (λ s. Ok (Some s)) (rw (to_z-of_z w32 c.args.p.now.gamma1 (search rules), omega_is, response-here g at.After-has_norm_below, hint) at c.write_signature.ensures)
+    rw (sym c.self.view_is) (ap (λ s. Ok (Some s)) (rw (to_z-of_z w32 c.args.p.now.gamma1 (search rules), omega_is, response-here g at.After-has_norm_below, hint) at c.write_encoded_signature.ensures)
     ∙ by_tests _ _ _ _ _ _
     (sym c.if-not-has_norm_below.false ∙ first g at.After-has_norm_below) (sym c.if-not-has_norm_below-2.false ∙ second g at.After-has_norm_below-2)
     (sym c.if-not-has_norm_below-3.false ∙ third g at.After-has_norm_below-3) (sym (le-leb _ _ (rw (omega_is, count) at c.if-number_of_ones-p.false))))

@@ -1,6 +1,6 @@
 use Rattle.std.proofs.Common.{◌≡◌, ◌+◌, ◌*◌, ◌∙◌, ap, append_assoc, arith, length, nat_abs, rules, w32}
 use Rattle.fips204_base.proofs.Names.{to_z-of_z, response_bounds, response_least, less_one}
-use Rattle.fips204_base.proofs.encodings.signature.write_signature.Goals as goal
+use Rattle.fips204_base.proofs.encodings.signature.write_encoded_signature.Goals as goal
 
 pub write_packed_vector-requires : goal.write_packed_vector-requires
 write_packed_vector-requires g c =
