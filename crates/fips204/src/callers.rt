@@ -1,5 +1,4 @@
-//! Callers of the laws and of generic calls, for mutations of these: no code calls them. Each shows what a law, or a
-//! part of it, has to say.
+//! Never called: a weakened law, or a weakened clause of a generic call, must break one of these proofs.
 #![tactic(auto)]
 
 ghost use Rattle.std.specs.Prelude.{◌≡◌, ◌≢◌, ◌↔◌, ◌<◌, ◌≤◌, ◌+◌, ◌*◌, ◌%◌, ◌^◌, ◌++◌, ℕ, pos, ◌-ℤ◌, nat_abs, length};

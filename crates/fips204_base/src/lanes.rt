@@ -61,7 +61,7 @@ impl Lanes {
     }
 
     /// The first four lanes, and after them those of `other`.
-    pub(crate) fn beside(self, other: Lanes) -> Lanes
+    pub(crate) fn concat_low(self, other: Lanes) -> Lanes
         ensures first { (j : ℕ) → j < 4 → lane result j ≡ lane self j }
         ensures second { (j : ℕ) → j < 4 → lane result (4 + j) ≡ lane other j }
     {
@@ -71,7 +71,7 @@ impl Lanes {
     }
 
     /// The last four lanes, and after them the first four.
-    pub(crate) fn halves_exchanged(self) -> Lanes
+    pub(crate) fn swap_halves(self) -> Lanes
         ensures { (j : ℕ) → j < 8 → lane result j ≡ lane self ((4 + j) % 8) }
     {
         let [a, b, c, d, e, f, g, h] = self.to_array();
@@ -138,7 +138,7 @@ impl Residue for Lanes {
 
     fn finish(self) -> Lanes {
         // 8347681 * 2^32 is 16382 modulo q
-        raised(mont_products(self, factor_words(16382)))
+        add_q_if_negative(mont_products(self, factor_words(16382)))
     }
 }
 
@@ -208,7 +208,7 @@ fn factor_words(factor: i32) -> i64
 }
 
 /// Each lane modulo `q`, from 0 to `q - 1`, for lanes below `q` in absolute value.
-fn raised(x: Lanes) -> Lanes
+fn add_q_if_negative(x: Lanes) -> Lanes
     requires { (j : ℕ) → j < 8 → nat_abs (lane x j) ≤ 8380416 }
     ensures { EachLane (λ x y. y ≡ pos (residue x)) 8 x result }
 {

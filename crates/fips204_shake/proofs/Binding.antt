@@ -8,7 +8,7 @@ use Rattle.fips204.specs.Refusals.{VerifiesInput}
 use Rattle.fips204.specs.SchemeLaws.{SignatureBindsHash, SignatureBindsInput, SignatureBindsKey}
 use Rattle.fips204_shake.specs.Binding.{OfKey, SignatureBinds}
 use Rattle.fips204_shake.specs.Bytes.{TellsVerdict, Judges}
-use Rattle.fips204_shake.specs.declared.bytes.refusal.Array.TheVariants.{PublicKey, Signature}
+use Rattle.fips204_shake.specs.declared.bytes.refusal.Buffer.TheVariants.{PublicKey, Signature}
 use Rattle.fips204_shake.specs.declared.bytes.refusal.Refusal.{Refusal}
 use Rattle.fips204_shake.specs.declared.bytes.refusal.Refusal.TheVariants.{Length}
 use Rattle.fips204_shake.proofs.Pairs.{chosen, not_done}

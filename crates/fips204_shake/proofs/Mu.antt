@@ -9,7 +9,7 @@ use Rattle.fips204.specs.Refusals.{input_fault, sign_input, VerifiesInput}
 use Rattle.fips204.specs.SchemeLaws.{HooksStandForInput}
 use Rattle.fips204_shake.specs.Bytes.{Leaves, WithPrivate, Writes, Signs, TellsVerdict, Judges}
 use Rattle.fips204_shake.specs.Mu.{tr_of_private, tr_of_public, MuStandsForInput, FramedStandsForInput}
-use Rattle.fips204_shake.specs.declared.bytes.refusal.Array.TheVariants.{PublicKey, PrivateKey, Signature}
+use Rattle.fips204_shake.specs.declared.bytes.refusal.Buffer.TheVariants.{PublicKey, PrivateKey, Signature}
 use Rattle.fips204_shake.specs.declared.bytes.refusal.Refusal.{Refusal}
 use Rattle.fips204_shake.specs.declared.bytes.refusal.Refusal.TheVariants.{Length}
 

@@ -11,7 +11,7 @@ use Rattle.fips204.specs.ParameterSets.{ParameterSet, IsSet, public_key_length, 
 use Rattle.fips204.specs.Refusals.{generated, derived, sign_input, VerifiesInput}
 use Rattle.fips204_shake.specs.Bytes.{Leaves, WithPrivate, Writes, Tells, WritesPair, Generates, WritesSignature, Signs, TellsVerdict, WritesPublic, Derives, AsksPrivate, ChecksPair, bytes_of_public}
 use Rattle.fips204_shake.specs.Pairs.{BelongTogether, PairsBelong}
-use Rattle.fips204_shake.specs.declared.bytes.refusal.Array.TheVariants.{PublicKey, PrivateKey, Signature}
+use Rattle.fips204_shake.specs.declared.bytes.refusal.Buffer.TheVariants.{PublicKey, PrivateKey, Signature}
 use Rattle.fips204_shake.specs.declared.bytes.refusal.Refusal.{Refusal}
 use Rattle.fips204_shake.specs.declared.bytes.refusal.Refusal.TheVariants.{Length, Library}
 use Rattle.fips204_shake.proofs.Lengths.{length-public_key, length-private_key, length-signature}

@@ -9,7 +9,7 @@ use Rattle.fips204.specs.Prepared.{PreparedPublic, PreparedPrivate, prepared_pub
 use Rattle.fips204.specs.PreparedBytes.{IsPreparedPublicOf, IsPreparedPrivateOf, prepared_public_bytes, prepared_private_bytes, prepared_public_length, prepared_private_length, PreparedThroughBytes}
 use Rattle.fips204_shake.specs.Bytes.{Leaves, Writes, WithPrivate, WritesSignature, TellsVerdict}
 use Rattle.fips204_shake.specs.Prepared.{WithPrepared, TellsPreparedVerdict, WritesPreparedSignature, PreparedStandsForPlain}
-use Rattle.fips204_shake.specs.declared.bytes.refusal.Array.TheVariants.{PublicKey, PrivateKey, PreparedPublicKey, PreparedPrivateKey, Signature}
+use Rattle.fips204_shake.specs.declared.bytes.refusal.Buffer.TheVariants.{PublicKey, PrivateKey, PreparedPublicKey, PreparedPrivateKey, Signature}
 use Rattle.fips204_shake.specs.declared.bytes.refusal.Refusal.{Refusal}
 use Rattle.fips204_shake.specs.declared.bytes.refusal.Refusal.TheVariants.{Length, Library}
 use Rattle.fips204_shake.proofs.Mu.{fitting}

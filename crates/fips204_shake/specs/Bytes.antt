@@ -8,13 +8,13 @@ use Rattle.fips204.specs.Framing.{Input}
 use Rattle.fips204.specs.Keys.{DecodesPrivate, TellsWhole}
 use Rattle.fips204.specs.ParameterSets.{ParameterSet, public_key_length, private_key_length, signature_length}
 use Rattle.fips204.specs.Refusals.{generated, derived, sign_input, VerifiesInput}
-use Rattle.fips204_shake.specs.declared.bytes.refusal.Array.{Array}
-use Rattle.fips204_shake.specs.declared.bytes.refusal.Array.TheVariants.{PublicKey, PrivateKey, Signature}
+use Rattle.fips204_shake.specs.declared.bytes.refusal.Buffer.{Buffer}
+use Rattle.fips204_shake.specs.declared.bytes.refusal.Buffer.TheVariants.{PublicKey, PrivateKey, Signature}
 use Rattle.fips204_shake.specs.declared.bytes.refusal.Refusal.{Refusal}
 use Rattle.fips204_shake.specs.declared.bytes.refusal.Refusal.TheVariants.{Length, Library}
 
 -- an array has the wanted length, or is rejected
-abbrev pub IfSized : ℕ → Array → Bytes → Type 0 → (Refusal → Type 0) → Type 0
+abbrev pub IfSized : ℕ → Buffer → Bytes → Type 0 → (Refusal → Type 0) → Type 0
 IfSized wanted which bytes fits refuses = MatchBool (nat_eq (length bytes) wanted) fits (refuses (Length which))
 
 -- an array that would be written is as it was

@@ -7,7 +7,7 @@ use Rattle.fips204.specs.ParameterSets.{ParameterSet, public_key_length, private
 use Rattle.fips204.specs.Prepared.{prepared_public, prepared_private, sign_prepared, VerifiesPrepared}
 use Rattle.fips204.specs.PreparedBytes.{Decodes, IsPreparedPublicOf, IsPreparedPrivateOf, prepared_public_bytes, prepared_private_bytes, prepared_public_length, prepared_private_length}
 use Rattle.fips204_shake.specs.Bytes.{IfSized, Leaves, Writes, WithPrivate, Signs, Judges}
-use Rattle.fips204_shake.specs.declared.bytes.refusal.Array.TheVariants.{PublicKey, PrivateKey, PreparedPublicKey, PreparedPrivateKey, Signature}
+use Rattle.fips204_shake.specs.declared.bytes.refusal.Buffer.TheVariants.{PublicKey, PrivateKey, PreparedPublicKey, PreparedPrivateKey, Signature}
 use Rattle.fips204_shake.specs.declared.bytes.refusal.Refusal.{Refusal}
 use Rattle.fips204_shake.specs.declared.bytes.refusal.Refusal.TheVariants.{NotPrepared}
 

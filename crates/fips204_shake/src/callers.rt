@@ -1,5 +1,4 @@
-//! Callers for mutations: what the aliases and the lengths of this crate stand for, by what goes through them, and what its
-//! law says. No code calls them.
+//! Never called: an alias over other streams, a wrong length or a weakened law must break one of these proofs.
 #![tactic(auto)]
 
 ghost use Rattle.std.specs.Prelude.{◌≡◌, ◌≤◌, ◌↔◌, ℕ, IsTrue};
@@ -16,7 +15,7 @@ ghost use Rattle.shake.specs.Shake.{shake256, shake128};
 
 use crate::streams::only_limits_differ;
 use crate::{
-    MAX_PREHASH_LEN, MAX_SIGN_ATTEMPTS, MlDsa, MlDsa44, MlDsa65, MlDsa87, ml_dsa_44, ml_dsa_65,
+    MAX_PREHASH_LEN, MAX_SIGN_ATTEMPTS, AnySet, MlDsa44, MlDsa65, MlDsa87, ml_dsa_44, ml_dsa_65,
     ml_dsa_87,
 };
 use fips204_base::Fault;
@@ -38,7 +37,7 @@ pub(crate) fn generated_by_name(
 ) -> Result<(), Refusal>
     ensures { Generates (named_set set) shake256_front shake128_front seed.now public_key.old public_key.new private_key.old private_key.new result }
 {
-    MlDsa::keygen(set, seed, public_key, private_key)
+    AnySet::keygen(set, seed, public_key, private_key)
 }
 
 /// The lengths of ML-DSA-44.

@@ -1,4 +1,4 @@
-//! Callers of the laws over bytes, which show that they hold of what the exports return, at each set. No code calls them.
+//! Never called: these proofs show that the laws over bytes hold of what the exports return, at each set.
 #![tactic(auto)]
 
 ghost use Rattle.std.specs.Prelude.{◌≡◌, ◌≢◌, ◌<◌, ◌↔◌, ◌⊎◌, ℕ, IsTrue, List, None, Some, length, replicate};

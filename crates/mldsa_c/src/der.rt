@@ -11,7 +11,7 @@ ghost use Rattle.mldsa_c.specs.Der.{status_of_der, IfGenerated, IfPair, IfSame, 
 use crate::statuses::{DONE, WRONG_LENGTH, status_of_refusal};
 use fips204_shake::bytes::array_of;
 use fips204_shake::der::{DerFault, PrivateKey, read_private, read_public, write_private, write_public};
-use fips204_shake::{Fault, MlDsa, Refusal, SetName};
+use fips204_shake::{Fault, AnySet, Refusal, SetName};
 
 /// The key is one of another parameter set.
 const OTHER_SET: u32 = 24;
@@ -49,7 +49,7 @@ fn generate(set: SetName, seed: &[u8; 32], private_key: &mut [u8]) -> Result<(),
 {
     let mut public_key = [0; PUBLIC_KEY];
     let public_key = &mut public_key[..set.public_key_len()];
-    match MlDsa::keygen(set, seed, public_key, private_key) {
+    match AnySet::keygen(set, seed, public_key, private_key) {
         Ok(()) => Ok(()),
         Err(refusal) => Err(status_of_refusal(refusal)),
     }
@@ -59,7 +59,7 @@ fn generate(set: SetName, seed: &[u8; 32], private_key: &mut [u8]) -> Result<(),
 fn check_pair(set: SetName, private_key: &[u8]) -> Result<(), u32>
     ensures { IfPair (named_set set) private_key.now (result ≡ Ok tt) (λ why. result ≡ Err why) }
 {
-    match MlDsa::is_pair(set, private_key) {
+    match AnySet::is_pair(set, private_key) {
         Ok(true) => Ok(()),
         Ok(false) | Err(Refusal::Library(Fault::KeyRange)) => Err(INCONSISTENT),
         Err(refusal) => Err(status_of_refusal(refusal)),

@@ -21,7 +21,7 @@ use Rattle.fips204.specs.declared.sets.SetName.{SetName}
 use Rattle.fips204.specs.declared.sets.SetName.TheVariants.{MlDsa44, MlDsa65, MlDsa87}
 use Rattle.fips204_shake.specs.Bytes as bytes
 use Rattle.fips204_shake.specs.Prepared.{PreparesPublic, PreparesPrivate}
-use Rattle.fips204_shake.specs.declared.bytes.refusal.Array.TheVariants.{Signature}
+use Rattle.fips204_shake.specs.declared.bytes.refusal.Buffer.TheVariants.{Signature}
 use Rattle.fips204_shake.specs.declared.bytes.refusal.Refusal.{Refusal}
 use Rattle.fips204_shake.specs.declared.bytes.refusal.Refusal.TheVariants as refusal
 use Rattle.fips204_shake.specs.Fronts.{shake256_front, shake128_front, length-shake256_front}

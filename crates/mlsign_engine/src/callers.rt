@@ -1,4 +1,4 @@
-//! Callers of the laws, and of clauses of `mlsign_files` and of `fips204_shake::der` which say that a key of a file is read: no code calls them.
+//! Never called: a weakened law, or a weakened clause on how a key of a file is read, must break one of these proofs.
 #![tactic(auto)]
 
 ghost use Rattle.std.specs.Prelude.{◌≡◌, ℕ, List, Bool, IfOk, IsTrue, Ok};

@@ -37,7 +37,7 @@ impl core::error::Error for Refusal {}
 
 #[cfg(test)]
 mod tests {
-    use crate::proved::fips204_shake::bytes::{Array, Fault, Refusal};
+    use crate::proved::fips204_shake::bytes::{Buffer, Fault, Refusal};
     use crate::proved::mldsa_c::{statuses::status_of_refusal, texts::mldsa_text_of};
 
     /// The texts are those that C has.
@@ -54,7 +54,7 @@ mod tests {
             Fault::KeyRange,
             Fault::SamplingLimit,
         ];
-        let others = [Refusal::Length(Array::Signature), Refusal::NotPrepared];
+        let others = [Refusal::Length(Buffer::Signature), Refusal::NotPrepared];
         for refusal in faults.map(Refusal::from).into_iter().chain(others) {
             let mut of_c = [0; 64];
             assert_eq!(mldsa_text_of(status_of_refusal(refusal), &mut of_c), 0);

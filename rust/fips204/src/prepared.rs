@@ -42,7 +42,7 @@ macro_rules! prepared_keys {
             pub fn prepare(&self) -> PreparedPublicKey {
                 let mut prepared = PreparedPublicKey(held());
                 let place = prepared.0.array_mut();
-                let made = MlDsa::prepare_public_key(Self::SET, self.0.given(), place);
+                let made = AnySet::prepare_public_key(Self::SET, self.0.given(), place);
                 made.map_err(why).unwrap();
                 prepared
             }
@@ -70,7 +70,7 @@ macro_rules! prepared_keys {
             pub fn prepare(&self) -> PreparedPrivateKey {
                 let mut prepared = PreparedPrivateKey(held());
                 let place = prepared.0.array_mut();
-                let made = MlDsa::prepare_private_key(Self::SET, self.0.given(), place);
+                let made = AnySet::prepare_private_key(Self::SET, self.0.given(), place);
                 made.map_err(why).unwrap();
                 prepared
             }
@@ -138,7 +138,7 @@ macro_rules! prepared_keys {
             }
 
             fn accepts(&self, input: &Input<'_>, signature: &[u8; SIG_LEN]) -> bool {
-                MlDsa::verify_prepared(PublicKey::SET, self.0.given(), input, signature) == Ok(true)
+                AnySet::verify_prepared(PublicKey::SET, self.0.given(), input, signature) == Ok(true)
             }
         }
 
@@ -281,7 +281,7 @@ macro_rules! prepared_keys {
                 input: &Input<'_>,
             ) -> Result<[u8; SIG_LEN], &'static str> {
                 let key = self.0.given();
-                set::signed(|place| MlDsa::sign_prepared(PrivateKey::SET, key, random, input, place))
+                set::signed(|place| AnySet::sign_prepared(PrivateKey::SET, key, random, input, place))
             }
         }
 

@@ -5,7 +5,7 @@
 //!
 //! - `ml_dsa_44`, `ml_dsa_65` and `ml_dsa_87` have the keys of each set, whose calls are those of the traits [`KeyGen`], [`Signer`],
 //!   [`Verifier`] and [`SerDes`]. A private or public key is decoded when it is made; `prepare` also samples its matrix.
-//! - [`MlDsa44`], [`MlDsa65`] and [`MlDsa87`] are the calls with keys and signatures as slices, and [`ByName`] those of a set whose
+//! - [`MlDsa44`], [`MlDsa65`] and [`MlDsa87`] are the calls with keys and signatures as slices, and [`AnySet`] those of a set whose
 //!   [name](SetName) is known when the program runs.
 //!
 //! What is signed is an [`Input`]. No call requires anything of its arguments that their types do not say.
@@ -52,7 +52,7 @@ pub use crate::proved::fips204_base::xof::{Fill, FillReader, FrontReader};
 #[cfg(feature = "sha2")]
 pub use crate::proved::fips204_base::xof::{Sha256Ctr, Sha256CtrLong, Sha512Ctr, Sha512CtrLong};
 pub use crate::proved::fips204_shake::bytes::{
-    Array, ByName, Calls, Fault, Input, MlDsa44, MlDsa65, MlDsa87, Refusal, SetName,
+    AnySet, Buffer, Fault, Input, MlDsa, MlDsa44, MlDsa65, MlDsa87, Refusal, SetName,
 };
 pub use crate::proved::fips204_shake::streams::{Shake128Stream, Shake256Stream};
 

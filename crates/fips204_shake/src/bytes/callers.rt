@@ -1,5 +1,4 @@
-//! Callers for mutations: what each part of the laws and of the definitions says, so that one which says less fails
-//! here. No code calls them.
+//! Never called: a law or a definition that says less must break one of these proofs.
 #![tactic(auto)]
 
 ghost use Rattle.std.specs.Prelude.{◌≡◌, ◌≢◌, ◌<◌, ◌≤◌, ◌+◌, ◌*◌, ◌-ℤ◌, ◌<ℤ◌, ℕ, pos, ◌↔◌, ◌⊎◌, ◌++◌, ⊤};

@@ -1,6 +1,5 @@
-//! The calls at one parameter set, as a type.
-//!
-//! A call looks at the lengths, and the function that it then calls does the work, outside its frame.
+//! The calls at one parameter set, as a type. A call checks the lengths; the function that it then calls does the work,
+//! outside its frame.
 #![tactic(auto)]
 
 ghost use Rattle.std.specs.Prelude.{◌≡◌, length};
@@ -11,7 +10,7 @@ ghost use Rattle.fips204.specs.Keys.{TellsWhole};
 ghost use Rattle.fips204_shake.specs.Bytes.{Generates, Signs, WritesSignature, Judges, TellsVerdict, Derives, WritesPublic, Checks, ChecksWholeness, ChecksPair};
 ghost use Rattle.fips204_shake.specs.Prepared.{PreparesPublic, WritesPreparedPublic, JudgesPrepared, TellsPreparedVerdict, PreparesPrivate, WritesPreparedPrivate, SignsPrepared, WritesPreparedSignature};
 
-use crate::bytes::refusal::{Array, Refusal};
+use crate::bytes::refusal::{Buffer, Refusal};
 use crate::bytes::slices::array_of;
 use fips204::Input;
 use fips204::sets::{HasSet, KeySizes, Matrix, Set, SignatureSizes};
@@ -24,16 +23,16 @@ use std::marker::PhantomData;
 /// and `G` (SHAKE256 and SHAKE128 in the standard), of plain and of prepared keys.
 ///
 /// In contracts `S.set` is the parameter set's row of the standard's tables. The calls make no value of this type.
-pub struct Calls<const K: usize, const L: usize, H, G>(PhantomData<(H, G)>);
+pub struct MlDsa<const K: usize, const L: usize, H, G>(PhantomData<(H, G)>);
 
 /// The calls of ML-DSA-44.
-pub type MlDsa44<H, G> = Calls<4, 4, H, G>;
+pub type MlDsa44<H, G> = MlDsa<4, 4, H, G>;
 
 /// The calls of ML-DSA-65.
-pub type MlDsa65<H, G> = Calls<6, 5, H, G>;
+pub type MlDsa65<H, G> = MlDsa<6, 5, H, G>;
 
 /// The calls of ML-DSA-87.
-pub type MlDsa87<H, G> = Calls<8, 7, H, G>;
+pub type MlDsa87<H, G> = MlDsa<8, 7, H, G>;
 
 impl<
     S,
@@ -44,7 +43,7 @@ impl<
     const SK_LEN: usize,
     H: Xof,
     G: Xof,
-> Calls<K, L, H, G>
+> MlDsa<K, L, H, G>
 where
     Matrix<K, L>: HasSet<Set = S>,
     S: Set<Signature = [u8; SIG_LEN], PublicKey = [u8; PK_LEN], PrivateKey = [u8; SK_LEN]>,
@@ -62,10 +61,10 @@ where
         ensures { Generates S.set H.front G.front seed.now public_key.old public_key.new private_key.old private_key.new result }
     {
         if public_key.len() != PK_LEN {
-            return Err(Refusal::Length(Array::PublicKey));
+            return Err(Refusal::Length(Buffer::PublicKey));
         }
         if private_key.len() != SK_LEN {
-            return Err(Refusal::Length(Array::PrivateKey));
+            return Err(Refusal::Length(Buffer::PrivateKey));
         }
         Ok(KG::<K, L, H, G>::write_pair(seed, public_key, private_key)?)
     }
@@ -84,10 +83,10 @@ where
         ensures { Signs S.set H.front G.front private_key.now random.now (input_of input.now) signature.old signature.new result }
     {
         if private_key.len() != SK_LEN {
-            return Err(Refusal::Length(Array::PrivateKey));
+            return Err(Refusal::Length(Buffer::PrivateKey));
         }
         if signature.len() != SIG_LEN {
-            return Err(Refusal::Length(Array::Signature));
+            return Err(Refusal::Length(Buffer::Signature));
         }
         Self::write_signature(private_key, random, input, signature)
     }
@@ -119,10 +118,10 @@ where
         ensures { Judges S.set H.front G.front public_key.now (input_of input.now) signature.now result }
     {
         if public_key.len() != PK_LEN {
-            return Err(Refusal::Length(Array::PublicKey));
+            return Err(Refusal::Length(Buffer::PublicKey));
         }
         if signature.len() != SIG_LEN {
-            return Err(Refusal::Length(Array::Signature));
+            return Err(Refusal::Length(Buffer::Signature));
         }
         Self::verdict(public_key, input, signature)
     }
@@ -146,10 +145,10 @@ where
         ensures { Derives S.set G.front private_key.now public_key.old public_key.new result }
     {
         if private_key.len() != SK_LEN {
-            return Err(Refusal::Length(Array::PrivateKey));
+            return Err(Refusal::Length(Buffer::PrivateKey));
         }
         if public_key.len() != PK_LEN {
-            return Err(Refusal::Length(Array::PublicKey));
+            return Err(Refusal::Length(Buffer::PublicKey));
         }
         Self::write_public(private_key, public_key)
     }
@@ -176,7 +175,7 @@ where
         ensures { Checks S.set private_key.now result }
     {
         if private_key.len() != SK_LEN {
-            return Err(Refusal::Length(Array::PrivateKey));
+            return Err(Refusal::Length(Buffer::PrivateKey));
         }
         match &PrivateKey::<K, L, H, G>::try_from_bytes(*array_of(private_key)) {
             Err(fault) => Err(Refusal::Library(*fault)),
@@ -193,7 +192,7 @@ where
         ensures { ChecksWholeness S.set G.front private_key.now result }
     {
         if private_key.len() != SK_LEN {
-            return Err(Refusal::Length(Array::PrivateKey));
+            return Err(Refusal::Length(Buffer::PrivateKey));
         }
         match &PrivateKey::<K, L, H, G>::try_from_bytes(*array_of(private_key)) {
             Err(fault) => Err(Refusal::Library(*fault)),
@@ -211,7 +210,7 @@ where
         ensures { ChecksPair S.set H.front G.front private_key.now result }
     {
         if private_key.len() != SK_LEN {
-            return Err(Refusal::Length(Array::PrivateKey));
+            return Err(Refusal::Length(Buffer::PrivateKey));
         }
         match &PrivateKey::<K, L, H, G>::try_from_bytes(*array_of(private_key)) {
             Err(fault) => Err(Refusal::Library(*fault)),
@@ -242,10 +241,10 @@ where
         ensures { PreparesPublic S.set H.front G.front public_key.now prepared.old prepared.new result }
     {
         if public_key.len() != PK_LEN {
-            return Err(Refusal::Length(Array::PublicKey));
+            return Err(Refusal::Length(Buffer::PublicKey));
         }
         if prepared.len() != Self::prepared_public_len() {
-            return Err(Refusal::Length(Array::PreparedPublicKey));
+            return Err(Refusal::Length(Buffer::PreparedPublicKey));
         }
         Self::write_prepared_public(public_key, prepared)
     }
@@ -274,10 +273,10 @@ where
         ensures { JudgesPrepared S.set H.front prepared.now (input_of input.now) signature.now result }
     {
         if prepared.len() != Self::prepared_public_len() {
-            return Err(Refusal::Length(Array::PreparedPublicKey));
+            return Err(Refusal::Length(Buffer::PreparedPublicKey));
         }
         if signature.len() != SIG_LEN {
-            return Err(Refusal::Length(Array::Signature));
+            return Err(Refusal::Length(Buffer::Signature));
         }
         Self::prepared_verdict(prepared, input, signature)
     }
@@ -306,10 +305,10 @@ where
         ensures { PreparesPrivate S.set G.front private_key.now prepared.old prepared.new result }
     {
         if private_key.len() != SK_LEN {
-            return Err(Refusal::Length(Array::PrivateKey));
+            return Err(Refusal::Length(Buffer::PrivateKey));
         }
         if prepared.len() != Self::prepared_private_len() {
-            return Err(Refusal::Length(Array::PreparedPrivateKey));
+            return Err(Refusal::Length(Buffer::PreparedPrivateKey));
         }
         Self::write_prepared_private(private_key, prepared)
     }
@@ -339,10 +338,10 @@ where
         ensures { SignsPrepared S.set H.front prepared.now random.now (input_of input.now) signature.old signature.new result }
     {
         if prepared.len() != Self::prepared_private_len() {
-            return Err(Refusal::Length(Array::PreparedPrivateKey));
+            return Err(Refusal::Length(Buffer::PreparedPrivateKey));
         }
         if signature.len() != SIG_LEN {
-            return Err(Refusal::Length(Array::Signature));
+            return Err(Refusal::Length(Buffer::Signature));
         }
         Self::write_prepared_signature(prepared, random, input, signature)
     }

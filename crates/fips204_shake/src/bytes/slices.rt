@@ -3,7 +3,7 @@
 
 ghost use Rattle.std.specs.Prelude.{◌≡◌, length};
 
-/// Bytes of a known number as an array, where they lie.
+/// Borrows a slice of exactly `N` bytes as an array.
 pub fn array_of<const N: usize>(bytes: &[u8]) -> &[u8; N]
     requires { length bytes.now ≡ N }
     ensures { result.now ≡ bytes.now }

@@ -1,5 +1,5 @@
-//! Preparing keys, signing and verifying over the bytes of prepared keys. No call holds a prepared key: each takes what
-//! it needs of the bytes, so that it has no more of the stack than the same call of a plain key.
+//! Preparing keys, signing and verifying over the bytes of prepared keys. These calls read the matrix from the bytes, row by
+//! row, so they need no more stack than the same calls of a plain key.
 #![tactic(auto)]
 
 ghost use Rattle.std.specs.Prelude.{◌≡◌, ◌↔◌, ◌*◌, IsTrue, IfNone, List, length, Ok, Err, MatchOption, MatchResult};

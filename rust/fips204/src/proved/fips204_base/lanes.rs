@@ -32,14 +32,14 @@ impl Lanes {
     }
 
     /// The first four lanes, and after them those of `other`.
-    pub(crate) fn beside(self, other: Lanes) -> Lanes {
+    pub(crate) fn concat_low(self, other: Lanes) -> Lanes {
         let [a, b, c, d, _, _, _, _] = self.to_array();
         let [e, f, g, h, _, _, _, _] = other.to_array();
         Lanes::from_array([a, b, c, d, e, f, g, h])
     }
 
     /// The last four lanes, and after them the first four.
-    pub(crate) fn halves_exchanged(self) -> Lanes {
+    pub(crate) fn swap_halves(self) -> Lanes {
         let [a, b, c, d, e, f, g, h] = self.to_array();
         Lanes::from_array([e, f, g, h, a, b, c, d])
     }
@@ -92,7 +92,7 @@ impl Residue for Lanes {
     #[inline(always)]
     fn finish(self) -> Lanes {
         // 8347681 * 2^32 is 16382 modulo q
-        raised(mont_products(self, factor_words(16382)))
+        add_q_if_negative(mont_products(self, factor_words(16382)))
     }
 }
 
@@ -143,6 +143,6 @@ fn factor_words(factor: i32) -> i64 {
 
 /// Each lane modulo `q`, from 0 to `q - 1`, for lanes below `q` in absolute value.
 #[inline(always)]
-fn raised(x: Lanes) -> Lanes {
+fn add_q_if_negative(x: Lanes) -> Lanes {
     Lanes(x.0 - (x.0 >> i32x8::splat(31)) * i32x8::splat(Q))
 }

@@ -1,6 +1,6 @@
 // Made by tools/erase of crates/fips204_base/src/product.rt. Change that, not this.
-//! What is multiplied: vectors as their transforms, side by side in eight lanes, and polynomials that vectors are
-//! multiplied by. Internal: serves the crate `fips204` alone.
+//! Vectors in the NTT domain, a polynomial a lane, and the factors that multiply them. Internal: serves the crate `fips204`
+//! alone.
 
 mod matrix;
 
@@ -155,7 +155,7 @@ fn write_multiple(c: &Factor, v: &Transforms, out: &mut [Lanes; 256]) {
 /// Writes `c v`, and from lane 4 on `c u`, in the first four polynomials of both.
 fn write_multiples(c: &Factor, v: &Transforms, u: &Transforms, out: &mut [Lanes; 256]) {
     for n in 0..256usize {
-        out[n] = v.values[n].beside(u.values[n]).times(c.values[n]);
+        out[n] = v.values[n].concat_low(u.values[n]).times(c.values[n]);
     }
     write_lanes_inv_ntt(out);
 }
@@ -172,7 +172,7 @@ fn write_lanes<const N: usize>(lanes: &[Lanes; 256], out: &mut [R; N]) {
 #[inline(always)]
 fn write_last_lanes<const N: usize>(lanes: &[Lanes; 256], out: &mut [R; N]) {
     for n in 0..256usize {
-        write_coefficients(lanes[n].halves_exchanged(), n, out);
+        write_coefficients(lanes[n].swap_halves(), n, out);
     }
 }
 

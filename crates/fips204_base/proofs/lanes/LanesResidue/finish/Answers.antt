@@ -12,4 +12,4 @@ returns c = λ j h.
     let value : IsCongruent (residue near) (8347681 * residue x) = factor_taken x near (pos 16382) 8347681 record { same = refl } s in
     let below = residue_below near in
     let is : residue near ≡ 8347681 * residue x % 8380417 = omega (arith, value.same, below) in
-    c.raised.ensures j h ∙ ap pos is
+    c.add_q_if_negative.ensures j h ∙ ap pos is

@@ -18,7 +18,8 @@ use crate::proved::fips204_base::xof::{Xof, hash};
 /// How many attempts signing makes (FIPS 204, Appendix C).
 pub const MAX_SIGN_ATTEMPTS: u16 = 814;
 
-/// A private key with its matrix and the transforms of its vectors, from wherever each comes.
+/// What signing needs of a key: its parts, its matrix and the NTTs of its vectors, borrowed from a plain key, a prepared one,
+/// or bytes.
 pub(crate) struct SigningKey<'a, const K: usize, const L: usize, H, G> {
     pub(crate) key: &'a PrivateKey<K, L, H, G>,
     pub(crate) a_hat: &'a [[T; L]; K],
@@ -43,8 +44,8 @@ pub fn sign_internal<const K: usize, const L: usize, const SIG_LEN: usize, H: Xo
     Ok(signature)
 }
 
-/// Writes what `sign_internal` returns. After an error `signature` is as it was. That the key's parts are in range is
-/// told to the caller, whose array the key is in.
+/// Like `sign_internal`, but signs into the caller's array, which an error leaves as it was. Also ensures that the key's
+/// parts are in range.
 ///
 /// Not inlined, so that the matrix is in the stack only while the key signs.
 #[inline(never)]

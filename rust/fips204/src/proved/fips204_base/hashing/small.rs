@@ -4,7 +4,7 @@
 use crate::proved::fips204_base::conversion::coeff_from_half_byte;
 use crate::proved::fips204_base::fault::Fault;
 use crate::proved::fips204_base::hashing::sampler::{Draws, Sampler};
-use crate::proved::fips204_base::hashing::{open_numbered, write_kept_without_branch};
+use crate::proved::fips204_base::hashing::{open_numbered, push_branchless};
 use crate::proved::fips204_base::types::{R, R0};
 use crate::proved::fips204_base::xof::{Xof, XofReader};
 
@@ -27,8 +27,8 @@ fn write_half_bytes_at(eta: i32, piece: &[u8], values: &mut [i32; 256], kept: us
         if count == 256 {
             return count;
         }
-        count = write_kept_without_branch(coeff_from_half_byte(eta, *byte % 16), values, count);
-        count = write_kept_without_branch(coeff_from_half_byte(eta, *byte / 16), values, count);
+        count = push_branchless(coeff_from_half_byte(eta, *byte % 16), values, count);
+        count = push_branchless(coeff_from_half_byte(eta, *byte / 16), values, count);
     }
     count
 }

@@ -1,7 +1,6 @@
 // Made by tools/erase of crates/fips204_shake/src/bytes/calls.rt. Change that, not this.
-//! The calls at one parameter set, as a type.
-//!
-//! A call looks at the lengths, and the function that it then calls does the work, outside its frame.
+//! The calls at one parameter set, as a type. A call checks the lengths; the function that it then calls does the work,
+//! outside its frame.
 
 use crate::proved::fips204::Input;
 use crate::proved::fips204::sets::{HasSet, KeySizes, Matrix, Set, SignatureSizes};
@@ -10,7 +9,7 @@ use crate::proved::fips204::types::{
     KG, PreparedPrivateKey, PreparedPublicKey, PrivateKey, PublicKey,
 };
 use crate::proved::fips204::xof::Xof;
-use crate::proved::fips204_shake::bytes::refusal::{Array, Refusal};
+use crate::proved::fips204_shake::bytes::refusal::{Buffer, Refusal};
 use crate::proved::fips204_shake::bytes::slices::array_of;
 use core::marker::PhantomData;
 
@@ -18,16 +17,16 @@ use core::marker::PhantomData;
 /// and `G` (SHAKE256 and SHAKE128 in the standard), of plain and of prepared keys.
 ///
 /// In contracts `S.set` is the parameter set's row of the standard's tables. The calls make no value of this type.
-pub struct Calls<const K: usize, const L: usize, H, G>(PhantomData<(H, G)>);
+pub struct MlDsa<const K: usize, const L: usize, H, G>(PhantomData<(H, G)>);
 
 /// The calls of ML-DSA-44.
-pub type MlDsa44<H, G> = Calls<4, 4, H, G>;
+pub type MlDsa44<H, G> = MlDsa<4, 4, H, G>;
 
 /// The calls of ML-DSA-65.
-pub type MlDsa65<H, G> = Calls<6, 5, H, G>;
+pub type MlDsa65<H, G> = MlDsa<6, 5, H, G>;
 
 /// The calls of ML-DSA-87.
-pub type MlDsa87<H, G> = Calls<8, 7, H, G>;
+pub type MlDsa87<H, G> = MlDsa<8, 7, H, G>;
 
 impl<
     S,
@@ -38,7 +37,7 @@ impl<
     const SK_LEN: usize,
     H: Xof,
     G: Xof,
-> Calls<K, L, H, G>
+> MlDsa<K, L, H, G>
 where
     Matrix<K, L>: HasSet<Set = S>,
     S: Set<Signature = [u8; SIG_LEN], PublicKey = [u8; PK_LEN], PrivateKey = [u8; SK_LEN]>,
@@ -54,10 +53,10 @@ where
         private_key: &mut [u8],
     ) -> Result<(), Refusal> {
         if public_key.len() != PK_LEN {
-            return Err(Refusal::Length(Array::PublicKey));
+            return Err(Refusal::Length(Buffer::PublicKey));
         }
         if private_key.len() != SK_LEN {
-            return Err(Refusal::Length(Array::PrivateKey));
+            return Err(Refusal::Length(Buffer::PrivateKey));
         }
         Ok(KG::<K, L, H, G>::write_pair(seed, public_key, private_key)?)
     }
@@ -74,10 +73,10 @@ where
         signature: &mut [u8],
     ) -> Result<(), Refusal> {
         if private_key.len() != SK_LEN {
-            return Err(Refusal::Length(Array::PrivateKey));
+            return Err(Refusal::Length(Buffer::PrivateKey));
         }
         if signature.len() != SIG_LEN {
-            return Err(Refusal::Length(Array::Signature));
+            return Err(Refusal::Length(Buffer::Signature));
         }
         Self::write_signature(private_key, random, input, signature)
     }
@@ -104,10 +103,10 @@ where
     /// Errors: the length of `public_key`, then of `signature`.
     pub fn verify(public_key: &[u8], input: &Input<'_>, signature: &[u8]) -> Result<bool, Refusal> {
         if public_key.len() != PK_LEN {
-            return Err(Refusal::Length(Array::PublicKey));
+            return Err(Refusal::Length(Buffer::PublicKey));
         }
         if signature.len() != SIG_LEN {
-            return Err(Refusal::Length(Array::Signature));
+            return Err(Refusal::Length(Buffer::Signature));
         }
         Self::verdict(public_key, input, signature)
     }
@@ -126,10 +125,10 @@ where
     /// then those of `Signer::get_public_key`.
     pub fn public_key(private_key: &[u8], public_key: &mut [u8]) -> Result<(), Refusal> {
         if private_key.len() != SK_LEN {
-            return Err(Refusal::Length(Array::PrivateKey));
+            return Err(Refusal::Length(Buffer::PrivateKey));
         }
         if public_key.len() != PK_LEN {
-            return Err(Refusal::Length(Array::PublicKey));
+            return Err(Refusal::Length(Buffer::PublicKey));
         }
         Self::write_public(private_key, public_key)
     }
@@ -151,7 +150,7 @@ where
     #[inline(never)]
     pub fn check_private_key(private_key: &[u8]) -> Result<(), Refusal> {
         if private_key.len() != SK_LEN {
-            return Err(Refusal::Length(Array::PrivateKey));
+            return Err(Refusal::Length(Buffer::PrivateKey));
         }
         match &PrivateKey::<K, L, H, G>::try_from_bytes(*array_of(private_key)) {
             Err(fault) => Err(Refusal::Library(*fault)),
@@ -166,7 +165,7 @@ where
     #[inline(never)]
     pub fn is_whole(private_key: &[u8]) -> Result<bool, Refusal> {
         if private_key.len() != SK_LEN {
-            return Err(Refusal::Length(Array::PrivateKey));
+            return Err(Refusal::Length(Buffer::PrivateKey));
         }
         match &PrivateKey::<K, L, H, G>::try_from_bytes(*array_of(private_key)) {
             Err(fault) => Err(Refusal::Library(*fault)),
@@ -182,7 +181,7 @@ where
     #[inline(never)]
     pub fn is_pair(private_key: &[u8]) -> Result<bool, Refusal> {
         if private_key.len() != SK_LEN {
-            return Err(Refusal::Length(Array::PrivateKey));
+            return Err(Refusal::Length(Buffer::PrivateKey));
         }
         match &PrivateKey::<K, L, H, G>::try_from_bytes(*array_of(private_key)) {
             Err(fault) => Err(Refusal::Library(*fault)),
@@ -207,10 +206,10 @@ where
     /// limit.
     pub fn prepare_public_key(public_key: &[u8], prepared: &mut [u8]) -> Result<(), Refusal> {
         if public_key.len() != PK_LEN {
-            return Err(Refusal::Length(Array::PublicKey));
+            return Err(Refusal::Length(Buffer::PublicKey));
         }
         if prepared.len() != Self::prepared_public_len() {
-            return Err(Refusal::Length(Array::PreparedPublicKey));
+            return Err(Refusal::Length(Buffer::PreparedPublicKey));
         }
         Self::write_prepared_public(public_key, prepared)
     }
@@ -234,10 +233,10 @@ where
         signature: &[u8],
     ) -> Result<bool, Refusal> {
         if prepared.len() != Self::prepared_public_len() {
-            return Err(Refusal::Length(Array::PreparedPublicKey));
+            return Err(Refusal::Length(Buffer::PreparedPublicKey));
         }
         if signature.len() != SIG_LEN {
-            return Err(Refusal::Length(Array::Signature));
+            return Err(Refusal::Length(Buffer::Signature));
         }
         Self::prepared_verdict(prepared, input, signature)
     }
@@ -261,10 +260,10 @@ where
     /// `Fault::SamplingLimit` if rejection sampling reaches its limit.
     pub fn prepare_private_key(private_key: &[u8], prepared: &mut [u8]) -> Result<(), Refusal> {
         if private_key.len() != SK_LEN {
-            return Err(Refusal::Length(Array::PrivateKey));
+            return Err(Refusal::Length(Buffer::PrivateKey));
         }
         if prepared.len() != Self::prepared_private_len() {
-            return Err(Refusal::Length(Array::PreparedPrivateKey));
+            return Err(Refusal::Length(Buffer::PreparedPrivateKey));
         }
         Self::write_prepared_private(private_key, prepared)
     }
@@ -289,10 +288,10 @@ where
         signature: &mut [u8],
     ) -> Result<(), Refusal> {
         if prepared.len() != Self::prepared_private_len() {
-            return Err(Refusal::Length(Array::PreparedPrivateKey));
+            return Err(Refusal::Length(Buffer::PreparedPrivateKey));
         }
         if signature.len() != SIG_LEN {
-            return Err(Refusal::Length(Array::Signature));
+            return Err(Refusal::Length(Buffer::Signature));
         }
         Self::write_prepared_signature(prepared, random, input, signature)
     }

@@ -3,9 +3,9 @@
 
 use crate::proved::fips204::Fault;
 
-/// An array that a call is given.
+/// Which argument has the wrong length.
 #[derive(Debug, Clone, Copy, PartialEq, Eq)]
-pub enum Array {
+pub enum Buffer {
     /// That of a public key.
     PublicKey,
     /// That of a private key.
@@ -21,8 +21,8 @@ pub enum Array {
 /// Why a call does nothing.
 #[derive(Debug, Clone, Copy, PartialEq, Eq)]
 pub enum Refusal {
-    /// This array hasn't the length that the parameter set wants.
-    Length(Array),
+    /// This argument does not have the length that the parameter set wants.
+    Length(Buffer),
     /// The library's error.
     Library(Fault),
     /// No prepared key has these bytes: a value of the matrix is `q` or more, or a coefficient of s1 or s2 is out of range.

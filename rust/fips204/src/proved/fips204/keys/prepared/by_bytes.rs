@@ -1,6 +1,6 @@
 // Made by tools/erase of crates/fips204/src/keys/prepared/by_bytes.rt. Change that, not this.
-//! Preparing keys, signing and verifying over the bytes of prepared keys. No call holds a prepared key: each takes what
-//! it needs of the bytes, so that it has no more of the stack than the same call of a plain key.
+//! Preparing keys, signing and verifying over the bytes of prepared keys. These calls read the matrix from the bytes, row by
+//! row, so they need no more stack than the same calls of a plain key.
 
 use crate::proved::fips204::input::Input;
 use crate::proved::fips204::ml_dsa::{self, check_matrix, read_matrix, write_matrix};

@@ -12,7 +12,7 @@ use fips204::xof::Xof;
 use fips204::{Input, SetName};
 use std::marker::PhantomData;
 
-/// A call of `Calls` at the parameter set of a name.
+/// A call of `MlDsa` at the parameter set of a name.
 macro_rules! of_set {
     ($set:ident, $call:ident($($argument:expr),*)) => {
         match $set {
@@ -24,11 +24,11 @@ macro_rules! of_set {
 }
 
 /// ML-DSA (FIPS 204) over bytes, over the XOFs `H` and `G`, for those who know the parameter set only when the program runs:
-/// each call does what the call of `Calls` does at the parameter set of this name.
-pub struct ByName<H, G>(PhantomData<(H, G)>);
+/// each call does what the call of `MlDsa` does at the parameter set of this name.
+pub struct AnySet<H, G>(PhantomData<(H, G)>);
 
-impl<H: Xof, G: Xof> ByName<H, G> {
-    /// `Calls::keygen` of the set of this name.
+impl<H: Xof, G: Xof> AnySet<H, G> {
+    /// `MlDsa::keygen` of the set of this name.
     #[inline(always)]
     pub fn keygen(
         set: SetName,
@@ -41,7 +41,7 @@ impl<H: Xof, G: Xof> ByName<H, G> {
         of_set!(set, keygen(seed, public_key, private_key))
     }
 
-    /// `Calls::sign` of the set of this name.
+    /// `MlDsa::sign` of the set of this name.
     #[inline(always)]
     pub fn sign(
         set: SetName,
@@ -55,7 +55,7 @@ impl<H: Xof, G: Xof> ByName<H, G> {
         of_set!(set, sign(private_key, random, input, signature))
     }
 
-    /// `Calls::verify` of the set of this name.
+    /// `MlDsa::verify` of the set of this name.
     #[inline(always)]
     pub fn verify(
         set: SetName,
@@ -68,7 +68,7 @@ impl<H: Xof, G: Xof> ByName<H, G> {
         of_set!(set, verify(public_key, input, signature))
     }
 
-    /// `Calls::public_key` of the set of this name.
+    /// `MlDsa::public_key` of the set of this name.
     #[inline(always)]
     pub fn public_key(
         set: SetName,
@@ -80,7 +80,7 @@ impl<H: Xof, G: Xof> ByName<H, G> {
         of_set!(set, public_key(private_key, public_key))
     }
 
-    /// `Calls::check_private_key` of the set of this name.
+    /// `MlDsa::check_private_key` of the set of this name.
     #[inline(always)]
     pub fn check_private_key(set: SetName, private_key: &[u8]) -> Result<(), Refusal>
         ensures { Checks (named_set set) private_key.now result }
@@ -88,7 +88,7 @@ impl<H: Xof, G: Xof> ByName<H, G> {
         of_set!(set, check_private_key(private_key))
     }
 
-    /// `Calls::is_whole` of the set of this name.
+    /// `MlDsa::is_whole` of the set of this name.
     #[inline(always)]
     pub fn is_whole(set: SetName, private_key: &[u8]) -> Result<bool, Refusal>
         ensures { ChecksWholeness (named_set set) G.front private_key.now result }
@@ -96,7 +96,7 @@ impl<H: Xof, G: Xof> ByName<H, G> {
         of_set!(set, is_whole(private_key))
     }
 
-    /// `Calls::is_pair` of the set of this name.
+    /// `MlDsa::is_pair` of the set of this name.
     #[inline(always)]
     pub fn is_pair(set: SetName, private_key: &[u8]) -> Result<bool, Refusal>
         ensures { ChecksPair (named_set set) H.front G.front private_key.now result }
@@ -104,7 +104,7 @@ impl<H: Xof, G: Xof> ByName<H, G> {
         of_set!(set, is_pair(private_key))
     }
 
-    /// `Calls::prepare_public_key` of the set of this name.
+    /// `MlDsa::prepare_public_key` of the set of this name.
     #[inline(always)]
     pub fn prepare_public_key(
         set: SetName,
@@ -116,7 +116,7 @@ impl<H: Xof, G: Xof> ByName<H, G> {
         of_set!(set, prepare_public_key(public_key, prepared))
     }
 
-    /// `Calls::verify_prepared` of the set of this name.
+    /// `MlDsa::verify_prepared` of the set of this name.
     #[inline(always)]
     pub fn verify_prepared(
         set: SetName,
@@ -129,7 +129,7 @@ impl<H: Xof, G: Xof> ByName<H, G> {
         of_set!(set, verify_prepared(prepared, input, signature))
     }
 
-    /// `Calls::prepare_private_key` of the set of this name.
+    /// `MlDsa::prepare_private_key` of the set of this name.
     #[inline(always)]
     pub fn prepare_private_key(
         set: SetName,
@@ -141,7 +141,7 @@ impl<H: Xof, G: Xof> ByName<H, G> {
         of_set!(set, prepare_private_key(private_key, prepared))
     }
 
-    /// `Calls::sign_prepared` of the set of this name.
+    /// `MlDsa::sign_prepared` of the set of this name.
     #[inline(always)]
     pub fn sign_prepared(
         set: SetName,

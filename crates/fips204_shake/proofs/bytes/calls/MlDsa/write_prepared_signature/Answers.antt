@@ -6,9 +6,9 @@ use Rattle.fips204.specs.Prepared.{PreparedPrivate, sign_prepared}
 use Rattle.fips204.specs.PreparedBytes.{IsPreparedPrivateOf}
 use Rattle.fips204.specs.Refusals as library
 use Rattle.fips204_shake.proofs.Written.{signature_written, nothing_written, prepared_found}
-use Rattle.fips204_shake.proofs.bytes.calls.Calls.write_prepared_signature.Given.{Over}
-use Rattle.fips204_shake.proofs.bytes.calls.Calls.write_prepared_signature.Goals as goal
-use Rattle.fips204_shake.proofs.bytes.calls.Calls.write_prepared_signature.Goals.{After-write_signature_by_bytes}
+use Rattle.fips204_shake.proofs.bytes.calls.MlDsa.write_prepared_signature.Given.{Over}
+use Rattle.fips204_shake.proofs.bytes.calls.MlDsa.write_prepared_signature.Goals as goal
+use Rattle.fips204_shake.proofs.bytes.calls.MlDsa.write_prepared_signature.Goals.{After-write_signature_by_bytes}
 
 -- whether a prepared key has the bytes, and what it makes
 abbrev has : (g : Over) (c : After-write_signature_by_bytes g) → PreparedPrivate → Type 0

@@ -1,6 +1,6 @@
 use Rattle.std.proofs.Common.{◌≡◌, sym, arith, rules, to_z, of_z}
 use Rattle.fips204_base.proofs.Names.{option_to_list, w32, keeps_counted, keeps_there, keeps_full}
-use Rattle.fips204_base.proofs.hashing.write_kept_without_branch.Goals as goal
+use Rattle.fips204_base.proofs.hashing.push_branchless.Goals as goal
 
 pub returns-then-kept-lt256-clause-kept : goal.returns-then-kept-lt256-clause-kept
 returns-then-kept-lt256-clause-kept c =

@@ -1,5 +1,5 @@
 use Rattle.std.proofs.Common.{refl, Some}
-use Rattle.fips204_shake.proofs.bytes.calls.Calls.prepared_verdict.Goals as goal
+use Rattle.fips204_shake.proofs.bytes.calls.MlDsa.prepared_verdict.Goals as goal
 
 pub returns-in-Some : goal.returns-in-Some
 returns-in-Some g c =

@@ -2,7 +2,7 @@ use Rattle.std.proofs.Common.{rules, Result, Bool, Ok}
 use Rattle.fips204_base.specs.declared.fault.Fault.{Fault}
 use Rattle.fips204.specs.Completeness.{TellsPair}
 use Rattle.fips204_shake.specs.Bytes.{Tells}
-use Rattle.fips204_shake.proofs.bytes.calls.Calls.is_pair.Goals as goal
+use Rattle.fips204_shake.proofs.bytes.calls.MlDsa.is_pair.Goals as goal
 
 pub returns-in_ok-is_pair-in-Ok : goal.returns-in_ok-is_pair-in-Ok
 returns-in_ok-is_pair-in-Ok g c =

@@ -1,7 +1,7 @@
 use Rattle.std.proofs.Common.{ℕ, ℤ, ◌≡◌, ◌<◌, ◌≤◌, ◌∙◌, pos, get_or, length, arith, sym, ap, subst, to_z, List, map}
 use Rattle.fips204_base.proofs.Names.{nat_abs, w32, fits_signed_from_abs, SFits, residue, lane, AreEight, residue_below}
 use Rattle.fips204_base.proofs.LaneReductions.{raised, raised_is, raised_row, raised_row_is, word_at, word_length}
-use Rattle.fips204_base.proofs.lanes.raised.Goals as goal
+use Rattle.fips204_base.proofs.lanes.add_q_if_negative.Goals as goal
 
 module _ (x : List ℤ) (ix : AreEight x) (bound : (j : ℕ) → j < 8 → nat_abs (lane x j) ≤ 8380416) where
   whole : raised_row 8 x ≡ map raised x

@@ -1,4 +1,4 @@
-// Made by tools/erase of crates/fips204_shake/src/bytes/by_name.rt. Change that, not this.
+// Made by tools/erase of crates/fips204_shake/src/bytes/any_set.rt. Change that, not this.
 //! The calls at a parameter set by its name.
 
 use crate::proved::fips204::xof::Xof;
@@ -7,7 +7,7 @@ use crate::proved::fips204_shake::bytes::calls::{MlDsa44, MlDsa65, MlDsa87};
 use crate::proved::fips204_shake::bytes::refusal::Refusal;
 use core::marker::PhantomData;
 
-/// A call of `Calls` at the parameter set of a name.
+/// A call of `MlDsa` at the parameter set of a name.
 macro_rules! of_set {
     ($set:ident, $call:ident($($argument:expr),*)) => {
         match $set {
@@ -19,11 +19,11 @@ macro_rules! of_set {
 }
 
 /// ML-DSA (FIPS 204) over bytes, over the XOFs `H` and `G`, for those who know the parameter set only when the program runs:
-/// each call does what the call of `Calls` does at the parameter set of this name.
-pub struct ByName<H, G>(PhantomData<(H, G)>);
+/// each call does what the call of `MlDsa` does at the parameter set of this name.
+pub struct AnySet<H, G>(PhantomData<(H, G)>);
 
-impl<H: Xof, G: Xof> ByName<H, G> {
-    /// `Calls::keygen` of the set of this name.
+impl<H: Xof, G: Xof> AnySet<H, G> {
+    /// `MlDsa::keygen` of the set of this name.
     #[inline(always)]
     pub fn keygen(
         set: SetName,
@@ -34,7 +34,7 @@ impl<H: Xof, G: Xof> ByName<H, G> {
         of_set!(set, keygen(seed, public_key, private_key))
     }
 
-    /// `Calls::sign` of the set of this name.
+    /// `MlDsa::sign` of the set of this name.
     #[inline(always)]
     pub fn sign(
         set: SetName,
@@ -46,7 +46,7 @@ impl<H: Xof, G: Xof> ByName<H, G> {
         of_set!(set, sign(private_key, random, input, signature))
     }
 
-    /// `Calls::verify` of the set of this name.
+    /// `MlDsa::verify` of the set of this name.
     #[inline(always)]
     pub fn verify(
         set: SetName,
@@ -57,7 +57,7 @@ impl<H: Xof, G: Xof> ByName<H, G> {
         of_set!(set, verify(public_key, input, signature))
     }
 
-    /// `Calls::public_key` of the set of this name.
+    /// `MlDsa::public_key` of the set of this name.
     #[inline(always)]
     pub fn public_key(
         set: SetName,
@@ -67,25 +67,25 @@ impl<H: Xof, G: Xof> ByName<H, G> {
         of_set!(set, public_key(private_key, public_key))
     }
 
-    /// `Calls::check_private_key` of the set of this name.
+    /// `MlDsa::check_private_key` of the set of this name.
     #[inline(always)]
     pub fn check_private_key(set: SetName, private_key: &[u8]) -> Result<(), Refusal> {
         of_set!(set, check_private_key(private_key))
     }
 
-    /// `Calls::is_whole` of the set of this name.
+    /// `MlDsa::is_whole` of the set of this name.
     #[inline(always)]
     pub fn is_whole(set: SetName, private_key: &[u8]) -> Result<bool, Refusal> {
         of_set!(set, is_whole(private_key))
     }
 
-    /// `Calls::is_pair` of the set of this name.
+    /// `MlDsa::is_pair` of the set of this name.
     #[inline(always)]
     pub fn is_pair(set: SetName, private_key: &[u8]) -> Result<bool, Refusal> {
         of_set!(set, is_pair(private_key))
     }
 
-    /// `Calls::prepare_public_key` of the set of this name.
+    /// `MlDsa::prepare_public_key` of the set of this name.
     #[inline(always)]
     pub fn prepare_public_key(
         set: SetName,
@@ -95,7 +95,7 @@ impl<H: Xof, G: Xof> ByName<H, G> {
         of_set!(set, prepare_public_key(public_key, prepared))
     }
 
-    /// `Calls::verify_prepared` of the set of this name.
+    /// `MlDsa::verify_prepared` of the set of this name.
     #[inline(always)]
     pub fn verify_prepared(
         set: SetName,
@@ -106,7 +106,7 @@ impl<H: Xof, G: Xof> ByName<H, G> {
         of_set!(set, verify_prepared(prepared, input, signature))
     }
 
-    /// `Calls::prepare_private_key` of the set of this name.
+    /// `MlDsa::prepare_private_key` of the set of this name.
     #[inline(always)]
     pub fn prepare_private_key(
         set: SetName,
@@ -116,7 +116,7 @@ impl<H: Xof, G: Xof> ByName<H, G> {
         of_set!(set, prepare_private_key(private_key, prepared))
     }
 
-    /// `Calls::sign_prepared` of the set of this name.
+    /// `MlDsa::sign_prepared` of the set of this name.
     #[inline(always)]
     pub fn sign_prepared(
         set: SetName,
