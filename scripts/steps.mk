@@ -6,7 +6,7 @@ python = flock out/python.lock
 
 # Without the kit, over what cargo builds: what others wait for, and then the longest first.
 TEST = tools library definitions rust rust-others programs lint c-gcc c-clang c-sanitized js erasing python \
-	vectors-wasm vectors-rust vectors-c refusals pages js-page erased tokens installs
+	vectors-wasm vectors-rust vectors-c refusals pages js-page erased tokens sets installs
 # With the kit: `rt ci`, and what is native, over what it left.
 CHECK = proof tools-check archives secrets ledger mlsign mlsign-edges native-c native-c-v3 native-c-aarch64 native-c-musl \
 	native-c-clang native-c-sanitized native-c-valgrind native-python native-vectors-v2 native-vectors-v3 \
@@ -22,6 +22,7 @@ definitions: ; $(step) -- scripts/run-definitions --short
 pages: ; $(step) -- scripts/pages
 installs: ; $(step) -- packaging/test_install.py
 tokens: ; $(step) -- tools/tokens
+sets: ; $(step) -- tools/sets --check
 erased: tools ; $(step) cargo -- tools/erase --check
 erasing: tools ; $(step) cargo -- tools/test_erase.py
 programs: tools ; $(step) cargo -- scripts/programs test
