@@ -24,7 +24,7 @@ use crate::{Marked, RunFault};
 use std::alloc::Global;
 use std::io::Read;
 use std::marker::PhantomData;
-pub(crate) use writing::Output;
+pub(crate) use writing::Reply;
 use writing::{one_line, refuse, tell, two_lines};
 
 /// Reads the lines that a command wants, and carries it out at a parameter set.
@@ -33,7 +33,7 @@ pub(crate) fn execute<H: Xof, G: Xof, I: Read>(
     task: Task,
     set: SetName,
     input: &mut Marked<I>,
-) -> Result<Output, RunFault>
+) -> Result<Reply, RunFault>
     requires unmarked { input.old.failed ≡ false }
     ensures read_failed { IsTrue input.new.failed ↔ (result ≡ Err RunFault.Read) }
     ensures executed { IfOk result (λ output. Executes H.front G.front task (named_set set)
@@ -73,7 +73,7 @@ where
         alloc: Global,
         task: Task,
         input: &mut Marked<I>,
-    ) -> Result<Output, RunFault>
+    ) -> Result<Reply, RunFault>
         requires unmarked { input.old.failed ≡ false }
         ensures read_failed { IsTrue input.new.failed ↔ (result ≡ Err RunFault.Read) }
         ensures executed { IfOk result (λ output. Executes H.front G.front task S.set
@@ -126,7 +126,7 @@ where
 
     /// The public key that has these bytes, and its hash, as lines of hex.
     #[inline(never)]
-    fn identify(alloc: Global, key: &[u8]) -> Result<Output, RunFault>
+    fn identify(alloc: Global, key: &[u8]) -> Result<Reply, RunFault>
         requires key { length key.now ≡ PK_LEN }
         ensures given { IfOk result (λ output. (output.text.items ≡ hex_text (key.now ∷ take 64 (H.front key.now) ∷ []))
             × (output.success ≡ true)) }
@@ -139,7 +139,7 @@ where
 
     /// The keys of a seed, as lines of hex, or the error.
     #[inline(never)]
-    fn keygen(alloc: Global, seed: &[u8; 32]) -> Result<Output, RunFault>
+    fn keygen(alloc: Global, seed: &[u8; 32]) -> Result<Reply, RunFault>
         ensures given { IfOk result (λ output. TellsKeys S.set H.front G.front seed.now output.text.items output.success) }
         ensures memory { IfErr result (λ fault. fault ≡ RunFault.Memory) }
     {
@@ -158,7 +158,7 @@ where
         seed: &[u8; 32],
         context: &[u8],
         message: &[u8],
-    ) -> Result<Output, RunFault>
+    ) -> Result<Reply, RunFault>
         requires key { length key.now ≡ SK_LEN }
         ensures given { IfOk result (λ output. TellsSignature S.set H.front G.front
             key.now seed.now context.now message.now output.text.items output.success) }
@@ -192,7 +192,7 @@ where
         rnd: &[u8; 32],
         context: &[u8],
         message: &[u8],
-    ) -> Result<Output, RunFault>
+    ) -> Result<Reply, RunFault>
         ensures given { IfOk result (λ output. TellsCheck S.set H.front G.front
             xi.now rnd.now context.now message.now output.text.items output.success) }
         ensures memory { IfErr result (λ fault. fault ≡ RunFault.Memory) }
@@ -212,7 +212,7 @@ where
         context: &[u8],
         count: usize,
         input: &mut Marked<I>,
-    ) -> Result<Output, RunFault>
+    ) -> Result<Reply, RunFault>
         requires unmarked { input.old.failed ≡ false }
         requires key { length key.now ≡ PK_LEN }
         requires few { count ≤ 65535 }
@@ -249,7 +249,7 @@ where
         context: &[u8],
         count: usize,
         input: &mut Marked<I>,
-    ) -> Result<Output, RunFault>
+    ) -> Result<Reply, RunFault>
         requires unmarked { input.old.failed ≡ false }
         requires few { count ≤ 65535 }
         ensures read_failed { IsTrue input.new.failed ↔ (result ≡ Err RunFault.Read) }
@@ -259,7 +259,7 @@ where
         ensures stops { IfErr result (StopsAt I.remaining input.old input.new 4 (entry_lines SIG_LEN count)) }
         ensures faults { IfErr result (λ fault. IsInputFault fault) }
     {
-        let mut output = Output {
+        let mut output = Reply {
             text: Vec::new(alloc),
             success: true,
         };

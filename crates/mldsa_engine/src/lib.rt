@@ -16,7 +16,7 @@ pub mod marked;
 pub mod output;
 pub mod process;
 
-use answers::{Output, execute};
+use answers::{Reply, execute};
 pub use bytewise::Bytewise;
 pub use call::{Streams, Task};
 pub use fault::RunFault;
@@ -49,7 +49,7 @@ pub fn run<H: Xof, G: Xof, I: Read, O: Write>(
     ensures nothing_written { IfErr result (λ fault. ¬ (fault ≡ RunFault.Write) → KeepsWritten O.contents output.old output.new) }
     ensures no_usage { ¬ (result ≡ Err RunFault.Usage) }
 {
-    let Output { text, success } = execute::<H, G, I>(alloc, task, set, input)?;
+    let Reply { text, success } = execute::<H, G, I>(alloc, task, set, input)?;
     output::write_all(output, text.as_slice())?;
     Ok(success)
 }
