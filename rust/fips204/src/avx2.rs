@@ -7,25 +7,29 @@ use core::sync::atomic::{AtomicU8, Ordering};
 /// Declares a function that is compiled twice, the second time for processors with AVX2, and that calls the one of these that
 /// fits. What it calls in turn has to be inlined, to be compiled with it.
 macro_rules! with_avx2 {
-    ($(#[$attribute:meta])* $visible:vis fn $name:ident($argument:ident: $type:ty) $body:block) => {
+    (
+        $(#[$attribute:meta])*
+        $visible:vis fn $name:ident $(<$(const $size:ident: usize),+>)? ($($argument:ident: $type:ty),+ $(,)?)
+            $(-> $result:ty)? $body:block
+    ) => {
         $(#[$attribute])*
-        $visible fn $name($argument: $type) {
+        $visible fn $name $(<$(const $size: usize),+>)? ($($argument: $type),+) $(-> $result)? {
             #[inline(always)]
-            fn for_any($argument: $type) $body
+            fn for_any $(<$(const $size: usize),+>)? ($($argument: $type),+) $(-> $result)? $body
 
             #[cfg(all(target_arch = "x86_64", not(target_feature = "avx2")))]
             {
                 #[target_feature(enable = "avx2")]
-                fn for_avx2($argument: $type) {
-                    for_any($argument);
+                fn for_avx2 $(<$(const $size: usize),+>)? ($($argument: $type),+) $(-> $result)? {
+                    for_any($($argument),+)
                 }
                 if crate::avx2::is_there() {
                     // SAFETY: the processor has AVX2, and the system keeps its registers.
                     #[allow(unsafe_code)]
-                    return unsafe { for_avx2($argument) };
+                    return unsafe { for_avx2($($argument),+) };
                 }
             }
-            for_any($argument);
+            for_any($($argument),+)
         }
     };
 }

@@ -144,20 +144,24 @@ impl<'a> Products<'a> {
     }
 }
 
-/// Writes `c v` (Algorithms 45 and 42 at each polynomial): lane `r` of value `n` is coefficient `n` of polynomial `r`.
-fn write_multiple(c: &Factor, v: &Transforms, out: &mut [Lanes; 256]) {
-    for n in 0..256usize {
-        out[n] = v.values[n].times(c.values[n]);
+crate::avx2::with_avx2! {
+    /// Writes `c v` (Algorithms 45 and 42 at each polynomial): lane `r` of value `n` is coefficient `n` of polynomial `r`.
+    fn write_multiple(c: &Factor, v: &Transforms, out: &mut [Lanes; 256]) {
+        for n in 0..256usize {
+            out[n] = v.values[n].times(c.values[n]);
+        }
+        write_lanes_inv_ntt(out);
     }
-    write_lanes_inv_ntt(out);
 }
 
-/// Writes `c v`, and from lane 4 on `c u`, in the first four polynomials of both.
-fn write_multiples(c: &Factor, v: &Transforms, u: &Transforms, out: &mut [Lanes; 256]) {
-    for n in 0..256usize {
-        out[n] = v.values[n].concat_low(u.values[n]).times(c.values[n]);
+crate::avx2::with_avx2! {
+    /// Writes `c v`, and from lane 4 on `c u`, in the first four polynomials of both.
+    fn write_multiples(c: &Factor, v: &Transforms, u: &Transforms, out: &mut [Lanes; 256]) {
+        for n in 0..256usize {
+            out[n] = v.values[n].concat_low(u.values[n]).times(c.values[n]);
+        }
+        write_lanes_inv_ntt(out);
     }
-    write_lanes_inv_ntt(out);
 }
 
 /// Writes the polynomials whose coefficients are in the lanes.

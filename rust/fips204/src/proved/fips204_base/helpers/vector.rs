@@ -37,13 +37,15 @@ pub fn mat_vec_mul<const K: usize, const L: usize>(a: &[[T; L]; K], u: &[T; L]) 
     out
 }
 
-/// Writes the sums of the products of a row of the matrix with the vector, value by value.
-///
-/// Not inlined, so that the compiler still knows that `out` is apart from both.
-#[inline(never)]
-pub(crate) fn write_row_sums<const L: usize>(row: &[T; L], u: &[T; L], out: &mut [i32; 256]) {
-    for j in 0..256 {
-        out[j] = place_sum(row, u, j);
+crate::avx2::with_avx2! {
+    /// Writes the sums of the products of a row of the matrix with the vector, value by value.
+    ///
+    /// Not inlined, so that the compiler still knows that `out` is apart from both.
+    #[inline(never)]
+    pub(crate) fn write_row_sums<const L: usize>(row: &[T; L], u: &[T; L], out: &mut [i32; 256]) {
+        for j in 0..256 {
+            out[j] = place_sum(row, u, j);
+        }
     }
 }
 
