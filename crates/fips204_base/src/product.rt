@@ -18,7 +18,7 @@ use crate::helpers::vector::value_to_mont;
 use crate::lanes::Lanes;
 use crate::ntt::{write_lanes_inv_ntt, write_lanes_ntt, write_ntt};
 use crate::types::R;
-pub use matrix::{write_matrix_product, write_sampled_product};
+pub use matrix::{Values, write_matrix_product, write_sampled_product};
 use std::marker::Model;
 
 /// A vector of at most eight polynomials, as their transforms: lane `r` of value `n` is value `n` of the transform of

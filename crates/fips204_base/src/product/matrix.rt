@@ -10,13 +10,14 @@ ghost use Rattle.fips204_base.specs.declared.types.T.{T};
 ghost use Rattle.fips204_base.specs.Residues.{residue};
 ghost use Rattle.fips204_base.specs.Vectors.{MatrixWithin, matrix_product, vector_coefficients};
 
-use super::{Transforms, lanes_of, write_at};
+use super::{Transforms, write_at};
 use crate::fault::Fault;
 use crate::hashing::write_next_row;
 use crate::helpers::vector::write_row_sums;
 use crate::lanes::Lanes;
 use crate::types::{R, T, T0};
 use crate::xof::Xof;
+use std::marker::Model;
 
 /// Writes `A v`, with coefficients from 0 to `q - 1`; the matrix is given by its transforms. Coefficients of `v` are
 /// below `q` in absolute value.
@@ -37,82 +38,101 @@ pub fn write_matrix_product<const K: usize, const L: usize>(
 {
     let mut w = Transforms::zeros();
     w.write_transforms(v);
-    w.multiply_by(a, out);
+    w.multiply_by(a);
     w.write_plain(out);
 }
 
-/// Writes `A v` for the matrix of `rho`, with one row of it at a time. `K` and `L` are those of a parameter set.
+/// Writes `A v` over `v`, for the matrix of `rho`, with one row of it at a time. `K` and `L` are those of a parameter set.
 /// Internal: serves the crate `fips204` alone.
 ///
-/// Errors: `SamplingLimit` if an entry reaches its limit.
+/// Errors: `SamplingLimit` if an entry reaches its limit; `v` may then have been written in part.
+///
+/// Not inlined, so that the rows leave the stack before the product is used.
+#[inline(never)]
 pub fn write_sampled_product<const K: usize, const L: usize, G: Xof>(
     rho: &[u8; 32],
-    v: &Transforms,
-    out: &mut Transforms,
+    v: &mut Transforms,
 ) -> Result<(), Fault>
     requires shape { (K ≤ 8) × (L ≤ 7) }
     ensures { OnSampled G.front rho.now K L result (λ a. (r n : ℕ) → r < K → n < 256
-        → vector_coefficients out.new r n ≡ matrix_product L a (vector_coefficients v.now) r n) }
+        → vector_coefficients v.new r n ≡ matrix_product L a (vector_coefficients v.old) r n) }
 {
     let mut row = [T0; L];
     let mut ahead = [T0; 4];
-    let mut values = [T0; L];
+    let mut values = Values::zeros();
     v.write_values(&mut values);
     for r in 0..K {
         write_next_row::<K, L, G>(rho, r, &mut ahead, &mut row)?;
-        out.write_row_product(r, &row, &values);
+        v.write_row_product(r, &row, &values);
     }
     Ok(())
 }
 
+/// The transforms of a vector of `L` polynomials, one after the other, as rows of the matrix are multiplied with them.
+///
+/// Contracts see these transforms.
+#[derive(Drop)]
+pub struct Values<const L: usize> {
+    transforms: [T; L],
+}
+
+impl<const L: usize> Model for Values<L> {
+    ghost use Rattle.std.specs.Prelude.{List};
+    ghost use Rattle.fips204_base.specs.declared.types.T.{T};
+    ghost use Rattle.fips204_base.specs.Bounds.{TransformsWithin};
+
+    ghost Value = { List T };
+
+    ghost view = { λ v. v.transforms };
+
+    ghost invariant = { λ v. TransformsWithin 8380416 v.transforms };
+}
+
+impl<const L: usize> Values<L> {
+    /// Transforms of zeros.
+    pub fn zeros() -> Values<L> {
+        Values { transforms: [T0; L] }
+    }
+}
+
 impl Transforms {
-    /// Becomes `A v` (Algorithm 48) where it was `v`; the matrix is given by its transforms. `rows` is room for those of
-    /// `A v`, so that they don't stay in the frame.
+    /// Becomes `A v` (Algorithm 48) where it was `v`; the matrix is given by its transforms.
     #[inline(never)]
-    pub fn multiply_by<const K: usize, const L: usize>(
-        &mut self,
-        a: &[[T; L]; K],
-        rows: &mut [R; K],
-    )
+    pub fn multiply_by<const K: usize, const L: usize>(&mut self, a: &[[T; L]; K])
         requires shape { (K ≤ 8) × (L ≤ 7) }
         requires matrix { MatrixWithin 8380416 a.now }
         ensures { (r n : ℕ) → r < K → n < 256
             → vector_coefficients self.new r n ≡ matrix_product L a.now (vector_coefficients self.old) r n }
     {
-        let mut v = [T0; L];
-        write_values(&self.values, &mut v);
+        let mut values = Values::zeros();
+        self.write_values(&mut values);
         for r in 0..K {
-            write_row_sums(&a[r], &v, &mut rows[r].0);
-        }
-        for n in 0..256usize {
-            self.values[n] = lanes_of(rows, n);
+            self.write_row_product(r, &a[r], &values);
         }
     }
 
     /// Polynomial `r` becomes the product of a row of the matrix with the vector of these transforms; the others stay.
-    pub fn write_row_product<const L: usize>(&mut self, r: usize, row: &[T; L], v: &[T; L])
+    pub fn write_row_product<const L: usize>(&mut self, r: usize, row: &[T; L], v: &Values<L>)
         requires shape { (r < 8) × (L ≤ 7) }
         requires row { TransformsWithin 8380416 row.now }
-        requires vector { TransformsWithin 8380416 v.now }
         ensures product { (n : ℕ) → n < 256
             → vector_coefficients self.new r n ≡ row_product L (plain_row row.now) (plain_row v.now) n }
         ensures kept { (i n : ℕ) → i ≢ r → i < 8 → n < 256
             → vector_coefficients self.new i n ≡ vector_coefficients self.old i n }
     {
         let mut sums = [0; 256];
-        write_row_sums(row, v, &mut sums);
+        write_row_sums(row, &v.transforms, &mut sums);
         for n in 0..256usize {
             self.values[n] = self.values[n].with_lane(r, sums[n]);
         }
     }
 
     /// Writes the transforms, one after the other.
-    pub fn write_values<const L: usize>(&self, out: &mut [T; L])
+    pub fn write_values<const L: usize>(&self, out: &mut Values<L>)
         requires { L ≤ 7 }
-        ensures values { (k n : ℕ) → k < L → n < 256 → plain_row out.new k n ≡ vector_coefficients self.now k n }
-        ensures small { TransformsWithin 8380416 out.new }
+        ensures { (k n : ℕ) → k < L → n < 256 → plain_row out.new k n ≡ vector_coefficients self.now k n }
     {
-        write_values(&self.values, out);
+        write_values(&self.values, &mut out.transforms);
     }
 }
 

@@ -9,7 +9,7 @@ use crate::proved::fips204_base::helpers::vector::value_to_mont;
 use crate::proved::fips204_base::lanes::Lanes;
 use crate::proved::fips204_base::ntt::{write_lanes_inv_ntt, write_lanes_ntt, write_ntt};
 use crate::proved::fips204_base::types::R;
-pub use matrix::{write_matrix_product, write_sampled_product};
+pub use matrix::{Values, write_matrix_product, write_sampled_product};
 
 /// A vector of at most eight polynomials, as their transforms: lane `r` of value `n` is value `n` of the transform of
 /// polynomial `r`, and zero where there is no polynomial `r`.

@@ -1,4 +1,4 @@
-use Rattle.std.proofs.Common.{arith, refl, rules, ◌≡◌, ◌≢◌, ◌∙◌, ◌<◌, ◌+◌, ◌-◌, ◌*◌, [], None, length, set, replicate}
+use Rattle.std.proofs.Common.{arith, refl, rules, ◌≡◌, ◌≢◌, ◌∙◌, ◌<◌, ◌+◌, ◌-◌, ◌*◌, [], None, get_or, length, set, replicate}
 use Rattle.std.proofs.lemmas.List.{length-replicate, get_or-set_same, get_or-set_other}
 use native.Mathlib.Decide.{dec_lt}
 use Rattle.fips204_base.specs.PlainTransforms.{plain_row, row_product}
@@ -29,7 +29,7 @@ write_row_product-requires g c =
     let one = 1024 * g.row.L in
     let size : one * c.loop-r.r + one - one * c.loop-r.r ≡ one = omega arith in
     let read = rw size at c.in_ok-read_row.ensures in
-    (omega (arith, c.requires.few.1), ((omega (arith, c.loop-r-test.true, c.requires.few.0), c.requires.few.1), (row_within g.row.L c.read_row.new.row read.0, c.write_values.ensures.small)))
+    (omega (arith, c.requires.few.1), ((omega (arith, c.loop-r-test.true, c.requires.few.0), c.requires.few.1), (row_within g.row.L c.read_row.new.row read.0)))
 
 pub loop-r-preserved : goal.loop-r-preserved
 loop-r-preserved g c =
@@ -48,8 +48,7 @@ loop-r-preserved g c =
             rw (get_or-set_other kept.0 r i row [] other) (c.write_row_product.ensures.kept i n other (omega (arith, before, c.loop-r-test.true, c.requires.few.0)) m ∙ kept.2 i n before m)
         | no now ↦
             let here : i ≡ r = omega (arith, h, now) in
-            rw (here, get_or-set_same kept.0 r row [] room) (c.write_row_product.ensures.product n m
-            ∙ row-same g.row.L (plain_row row) (plain_row c.write_values.new.out) (vector_coefficients c.args.v.now) n c.write_values.ensures.values m)
+            rw (here, get_or-set_same kept.0 r row [] room) (c.write_row_product.ensures.product n m)
       ],
     )
 
@@ -59,4 +58,5 @@ returns g c =
     let end : c.loop-r.r ≡ g.row.K = omega (arith, c.loop-r-test.false, c.loop-r.auto.r-end) in
     let kept = c.loop-r.invariant in
     let all = reads_all (IsRow g.row.L) row_bytes g.row.K (1024 * g.row.L) c.loop-r.r c.args.bytes.now kept.0 kept.1 end c.requires.size in
-    (kept.0, all.0, all.1, λ r n h m. kept.2 r n (omega (arith, h, end)) m)
+    (kept.0, all.0, all.1, λ r n h m. kept.2 r n (omega (arith, h, end)) m
+        ∙ row-same g.row.L (plain_row (get_or kept.0 r [])) (plain_row c.write_values.new.out) (vector_coefficients c.args.v.now) n c.write_values.ensures m)

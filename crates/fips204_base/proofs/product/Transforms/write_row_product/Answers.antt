@@ -6,9 +6,9 @@ use Rattle.fips204_base.proofs.product.Transforms.write_row_product.Goals as goa
 -- Lane r of each value is the sum of the products of the row with the transforms, so that polynomial r is the product of the
 -- plain row with the vector.
 pub returns-clause-product : goal.returns-clause-product
-returns-clause-product g c = λ n l.
-    plain-row g.row.L c.args.row.now c.args.v.now c.loop-n.self-inside.values c.args.r n c.requires.shape.0 l (λ i p.
-    c.loop-n.invariant.values i [] (omega (arith, p, c.loop-n-test.false)))
+returns-clause-product g c = rw (sym c.v.view_is) (λ n l.
+    plain-row g.row.L c.args.row.now c.v.inside.transforms c.loop-n.self-inside.values c.args.r n c.requires.shape.0 l (λ i p.
+    c.loop-n.invariant.values i [] (omega (arith, p, c.loop-n-test.false))))
 
 -- The other lanes stay, and so do their polynomials.
 pub returns-clause-kept : goal.returns-clause-kept

@@ -162,10 +162,9 @@ fn write_key_vector<const K: usize, const L: usize, G: Xof>(
     s2: &[R; K],
     t: &mut [R; K],
 ) -> Result<(), Fault> {
-    let mut s1_hat = Transforms::zeros();
-    s1_hat.write_transforms(s1);
     let mut product = Transforms::zeros();
-    write_sampled_product::<K, L, G>(rho, &s1_hat, &mut product)?;
+    product.write_transforms(s1);
+    write_sampled_product::<K, L, G>(rho, &mut product)?;
     product.write_plain(t);
     write_sum(t, s2);
     Ok(())
