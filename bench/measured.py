@@ -9,10 +9,12 @@ import re
 import subprocess
 import tarfile
 
-from common import TOP, command, text
+from common import TOP, command, printed, text
 
 # What a call from C, Rust or JavaScript runs.
-CRATES = ("fips204_base", "fips204", "fips204_bytes", "shake", "fips204_shake", "mldsa_c")
+CRATES = ("fips204_base", "fips204", "shake", "fips204_shake", "mldsa_c")
+# What was such a crate in older commits.
+ONCE = ("fips204_bytes",)
 TABLE = "bench/table.md"
 
 
@@ -36,9 +38,10 @@ def code():
 
 def code_of(commit):
     """The sum of the code of a commit, or none where the commit is not there."""
-    folders = [f"crates/{crate}/src" for crate in CRATES]
+    folders = [f"crates/{crate}/src" for crate in (*CRATES, *ONCE)]
+    there = printed("git", "-C", TOP, "ls-tree", "--name-only", commit, *folders).split()
     try:
-        done = subprocess.run(["git", "-C", TOP, "archive", commit, *folders], capture_output=True, check=False)
+        done = subprocess.run(["git", "-C", TOP, "archive", commit, *there], capture_output=True, check=False)
     except OSError:
         return None
     if done.returncode:

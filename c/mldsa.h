@@ -1,105 +1,43 @@
 /* mldsa.h - ML-DSA (FIPS 204) at the parameter sets 44, 65 and 87, over SHAKE
  *
- * Read a result as 0 or not 0. verify returns 0 (MLDSA_YES) if the signature is accepted, and every other result is a
- * rejection, that of a wrong length too. The one right test is
+ * Test a result for 0. verify returns 0 (MLDSA_YES) if the signature is accepted, and every other result is a rejection, also the
+ * one for a wrong length. The one right test is
  *
  *     if (mldsa65_verify(..) == MLDSA_YES)
  *         .. accepted ..
  *
- * and likewise for is_whole and is_pair. A pointer is never null, also where its length is 0: for an empty array pass
- * MLDSA_NOTHING, 0. An array may begin at any address: none has to be aligned. gcc and clang warn where a result is not used;
- * where they do not optimize, of a null pointer that they see, and gcc otherwise too, if its length is not 0; and gcc from 10 on
- * of an array that is shorter than the length behind it says, as that of another set is. A test for null stays in a program,
- * wherever it stands.
+ * and likewise for is_whole and is_pair.
  *
- * The library's code in Rattle is proved: each call returns what FIPS 204 says or an error, reads and writes nothing but the
- * arrays that it is given, and ends. docs/SPEC.md of its repository says this exactly, and what it rests on. On x86-64 some lines
- * of C, which are tested, choose between two compilations of that code. In the library that cargo builds, the same code is plain
- * Rust, which a script makes of it.
+ * An array is a pointer and, right after it, its length in bytes. A wrong length is safe: the call returns MLDSA_WRONG_LENGTH and
+ * writes nothing. The arrays that a call writes are those without const; they come last. The call writes them only if the result is
+ * MLDSA_DONE, and leaves them as they were after every other result.
  *
- * An array is a pointer and, right after it, its length in bytes. A wrong length is safe: the call returns
- * MLDSA_WRONG_LENGTH and writes nothing. The arrays that a call writes are those without const; they come last. They are
- * written only if the result is MLDSA_DONE, and are as they were after every other one.
- *
- * The caller owes, and nothing checks:
- *  - a pointer is not null, and points to as many bytes as its length says;
- *  - an array that is written overlaps no other array of the call, and nobody else touches it meanwhile. Arrays that are
- *    read may overlap, and may be read by others at the same time;
+ * You owe the following, and nothing checks it:
+ *  - no pointer is null, also if its length is 0 (for an empty array pass MLDSA_NOTHING, 0), and it points to as many bytes as its
+ *    length says. An array may begin at any address;
+ *  - an array that is written overlaps no other array of the call, and nobody else touches it meanwhile. Arrays that are read may
+ *    overlap, and others may read them at the same time;
  *  - the thread has as many bytes of stack left as MLDSA*_STACK_* says (ask for them where you start a thread);
  *  - seed and random are secret, drawn from a good generator, and used once.
  *
- * The calls keep no state but, on x86-64, the processor's level, allocate nothing, call nothing but memcpy, memmove and memset, and
- * may run in any number of threads. The library that cargo builds calls memcmp or bcmp too, and abort at places that the proofs
- * show to be out of reach.
- * They leave secrets on the stack below the caller's frame, and are not claimed to run in constant time.
+ * gcc and clang warn about a result that you don't use, and, if they don't optimize, about a NULL that they see. gcc 10 and later
+ * also warns about an array that is shorter than its length says, as one of another set is. If your program tests a pointer for
+ * null, the test stays, wherever it stands.
  *
- * A program for each group of calls is among the examples: message.c, digest.c, pieces.c, keys.c, prepared.c and der.c.
+ * The library's code in Rattle is proved: each call returns what FIPS 204 says or an error, reads and writes nothing but the
+ * arrays that you give, and ends. docs/SPEC.md of its repository says this exactly, and what it rests on. On x86-64 some lines
+ * of C, which are tested, choose between two compilations of that code. If cargo builds the library, the same code is plain Rust,
+ * which a script makes of it.
  *
- * A set's calls are these, with its number in the name (mldsa44_keygen, mldsa65_keygen, mldsa87_keygen). Behind each stand
- * the results that it has beside 0 and MLDSA_WRONG_LENGTH. No input is known to return MLDSA_SAMPLING_LIMIT.
+ * The calls keep no state but, on x86-64, the processor's level. They allocate nothing, call nothing but memcpy, memmove and
+ * memset, and may run in any number of threads. As cargo builds the library, it also calls memcmp or bcmp, and abort at places that
+ * the proofs show to be out of reach. The calls leave secrets on the stack below your frame, and are not claimed to run in constant
+ * time.
  *
- *  keygen              writes the key pair of a seed of MLDSA_SEED_LEN bytes. Whoever has the seed has the key.
- *                      [MLDSA_SAMPLING_LIMIT]
- *  sign                signs a message under a context of at most 255 bytes, with the hash tr that the private key keeps.
- *                      random has MLDSA_RANDOM_LEN bytes; zeros give the deterministic variant of the standard.
- *                      [MLDSA_KEY_RANGE, MLDSA_CONTEXT_TOO_LONG, MLDSA_SAMPLING_LIMIT, MLDSA_TOO_MANY_ATTEMPTS]
- *  verify              whether the public key accepts the signature of the message under the context. A context of more
- *                      than 255 bytes is not accepted. [MLDSA_NO]
- *  accepts             tells by 1 that verify says yes, and by 0 all else, a wrong length too: for languages in which 0 is false.
- *                      Never compare it with MLDSA_YES. [1 or 0]
- *  hash_sign           signs the digest of a message that a hash function made. oid is the function's object identifier
- *  hash_verify         in DER, as MLDSA_OID_SHA2_256; the digest of one of the twelve functions that FIPS 204 names must have
- *                      that function's length, and any other at most 1024 bytes. [hash_sign: MLDSA_KEY_RANGE,
- *                      MLDSA_HASH_CONTEXT_TOO_LONG, MLDSA_OID_EMPTY, MLDSA_OID_NOT_DER, MLDSA_DIGEST_TOO_LONG,
- *                      MLDSA_DIGEST_LENGTH, MLDSA_SAMPLING_LIMIT, MLDSA_TOO_MANY_ATTEMPTS; hash_verify: MLDSA_NO]
- *  mu_begin            begins a message in pieces, under a context, for a public key that verifies it or for a private key
- *  mu_begin_private    that signs it (under the tr that this keeps): writes a state of MLDSA_STATE_LEN bytes. Then
- *                      mldsa_mu_update adds pieces, and mldsa_mu_finish writes mu. [MLDSA_CONTEXT_TOO_LONG]
- *  sign_mu             signs a message of which this is mu, of MLDSA_MU_LEN bytes: the first 64 bytes of SHAKE256 over tr, 00,
- *  verify_mu           the context's length as a byte, the context and the message, where tr are the first 64 bytes of
- *                      SHAKE256 over the public key. The signature is that of sign, if the private key keeps this tr.
- *                      [sign_mu: MLDSA_KEY_RANGE, MLDSA_SAMPLING_LIMIT, MLDSA_TOO_MANY_ATTEMPTS; verify_mu: MLDSA_NO]
- *  public_key          writes the public key that belongs to a private one. [MLDSA_KEY_RANGE, MLDSA_SAMPLING_LIMIT]
- *  check_private_key   whether the bytes are a private key at all, which each call with a private key checks too.
- *                      [MLDSA_KEY_RANGE]
- *  is_pair             whether the parts of a private key from elsewhere belong together. If so, whatever it signs is
- *                      accepted under the public key that public_key writes; keygen makes no other keys. If not, its t0 or tr
- *                      is not its own, and what it signs may be accepted or not. [MLDSA_NO, MLDSA_KEY_RANGE,
- *                      MLDSA_SAMPLING_LIMIT]
- *  is_whole            the same without a look at tr: whether the part t0 of the key belongs to its parts s1 and s2. [as is_pair]
- *  prepare_public_key  writes a prepared key, of MLDSA*_PREPARED_PUBLIC_KEY_LEN or MLDSA*_PREPARED_PRIVATE_KEY_LEN bytes: the
- *  prepare_private_key bytes of the key, and behind them what each call would compute of them anew. [MLDSA_SAMPLING_LIMIT;
- *                      prepare_private_key: MLDSA_KEY_RANGE too]
- *  verify_prepared, hash_verify_prepared, verify_mu_prepared, sign_prepared, hash_sign_prepared, sign_mu_prepared
- *                      return with a prepared key what the calls without _prepared return with the key that it was made of, and
- *                      take less time. Any bytes are safe in a prepared key. MLDSA_NOT_PREPARED is the result where a value of
- *                      its matrix is 8380417 or more, or, in a private key, a coefficient of s1 or s2 is out of range.
- *                      Every other array of the right length gets a verdict or a signature, one whose matrix or tr is another
- *                      key's too, which no call writes: that means nothing, since nothing checks that its parts belong
- *                      together. Keep a prepared public key where nobody can change it, since a changed one may accept what
- *                      nobody signed; and a prepared private key as secret as the private key, and where nobody can change it,
- *                      since what a changed one signs may tell the key. [as the calls without _prepared, but
- *                      MLDSA_NOT_PREPARED, of verifying too, and not MLDSA_KEY_RANGE]
- *  public_key_to_der, public_key_from_der
- *                      write and read a public key as files have it: the DER of a SubjectPublicKeyInfo (RFC 9881, section 4), of
- *                      MLDSA*_PUBLIC_KEY_DER_LEN bytes. DER has one form, and what is read may have any length: every other file is
- *                      reported by its first fault. [public_key_from_der: MLDSA_DER_CUT_SHORT, MLDSA_DER_TRAILING,
- *                      MLDSA_DER_DAMAGED, MLDSA_DER_ALGORITHM, MLDSA_DER_KEY_LENGTH, MLDSA_OTHER_SET]
- *  seed_to_der, private_key_to_der, both_to_der
- *                      write a private key as files have it, not encrypted: the DER of a OneAsymmetricKey of version 0 (RFC 9881,
- *                      section 6; also called PKCS #8), with the seed, of MLDSA_SEED_DER_LEN bytes; with the expanded key, of
- *                      MLDSA*_PRIVATE_KEY_DER_LEN; or with the seed and the expanded key that it generates, of MLDSA*_BOTH_DER_LEN.
- *                      An expanded key alone has to be one that is_pair says yes to. [private_key_to_der:
- *                      MLDSA_INCONSISTENT, MLDSA_SAMPLING_LIMIT; both_to_der: MLDSA_SAMPLING_LIMIT]
- *  private_key_from_der, seed_from_der
- *                      read a private key in any of the three forms, of any length, and write the expanded key, or the seed where
- *                      there is one. Rejected is an expanded key that the seed beside it does not generate; and by
- *                      private_key_from_der one that is alone, to which is_pair does not say yes: seed_from_der does not look at
- *                      it. To load a key, ask for its seed, and where the result is MLDSA_NO_SEED for its expanded key; where the
- *                      set is not known, ask at each as long as the result is MLDSA_OTHER_SET.
- *                      [private_key_from_der: MLDSA_DER_CUT_SHORT, MLDSA_DER_TRAILING, MLDSA_DER_DAMAGED, MLDSA_DER_VERSION,
- *                      MLDSA_DER_ALGORITHM, MLDSA_DER_KEY_LENGTH, MLDSA_OTHER_SET, MLDSA_INCONSISTENT, MLDSA_SAMPLING_LIMIT;
- *                      seed_from_der: MLDSA_NO_SEED too]
+ * A set's number is part of each name: mldsa44_keygen, mldsa65_keygen, mldsa87_keygen. A comment at each call says what it does,
+ * how much stack it needs and which results it has. The declarations of 65 and 87 are made from those of 44 by tools/sets. A
+ * program for each group of calls is among the examples: message.c, digest.c, pieces.c, keys.c, prepared.c and der.c. Nobody knows
+ * an input for which a call returns MLDSA_SAMPLING_LIMIT.
  */
 #ifndef MLDSA_H
 #define MLDSA_H
@@ -162,32 +100,32 @@ extern "C" {
 #define MLDSA_WRITES_1_BEHIND_5 MLDSA_ARRAY(write_only, 11, 12)
 #define MLDSA_WRITES_2_BEHIND_1 MLDSA_WRITES_1_BEHIND_1 MLDSA_ARRAY(write_only, 5, 6)
 
-/* What a call returns. mldsa_text has a text for each. */
+/** What a call returns. mldsa_text has a text for each. */
 enum mldsa_status {
-    MLDSA_DONE = 0,                   /* done, and the arrays are written */
-    MLDSA_YES = 0,                    /* the result of a question is yes */
-    MLDSA_NO = 1,                     /* the result of a question is no */
-    MLDSA_WRONG_LENGTH = 2,           /* an array has the wrong length */
-    MLDSA_CONTEXT_TOO_LONG = 4,       /* sign: the context has more than 255 bytes */
-    MLDSA_HASH_CONTEXT_TOO_LONG = 6,  /* hash_sign: the context has more than 255 bytes */
-    MLDSA_OID_EMPTY = 7,              /* hash_sign: the object identifier is empty */
-    MLDSA_OID_NOT_DER = 8,            /* hash_sign: the object identifier is not in DER */
-    MLDSA_DIGEST_TOO_LONG = 9,        /* hash_sign: the digest has more than 1024 bytes */
-    MLDSA_DIGEST_LENGTH = 10,         /* hash_sign: the digest has not the length of the function's digests */
-    MLDSA_TOO_MANY_ATTEMPTS = 13,     /* signing: all 814 attempts were rejected, as with an inconsistent key */
-    MLDSA_KEY_RANGE = 14,             /* the bytes are no private key */
-    MLDSA_SAMPLING_LIMIT = 15,        /* rejection sampling reached its limit; no such input is known */
-    MLDSA_BROKEN_STATE = 16,          /* mldsa_mu_update, mldsa_mu_finish: the last byte of the state is 0 or above 136 */
-    MLDSA_NOT_PREPARED = 17,          /* a value of this prepared key is out of range, so no call has written it */
-    MLDSA_DER_CUT_SHORT = 18,         /* an element of the DER is longer than what holds it */
-    MLDSA_DER_TRAILING = 19,          /* something follows an element of the DER where nothing may */
-    MLDSA_DER_DAMAGED = 20,           /* the DER has another element than is expected, or a length in another form */
-    MLDSA_DER_VERSION = 21,           /* the version of the private key is not 0 */
-    MLDSA_DER_ALGORITHM = 22,         /* the algorithm is none of the three, or has parameters */
-    MLDSA_DER_KEY_LENGTH = 23,        /* the seed or key has another length than its algorithm's */
-    MLDSA_OTHER_SET = 24,             /* the key is one of another parameter set */
-    MLDSA_INCONSISTENT = 25,          /* the parts of the private key do not belong together */
-    MLDSA_NO_SEED = 26                /* seed_from_der: the private key has no seed */
+    MLDSA_DONE = 0,                   /**< done, and the arrays are written */
+    MLDSA_YES = 0,                    /**< the result of a question is yes */
+    MLDSA_NO = 1,                     /**< the result of a question is no */
+    MLDSA_WRONG_LENGTH = 2,           /**< an array has the wrong length */
+    MLDSA_CONTEXT_TOO_LONG = 4,       /**< sign: the context has more than 255 bytes */
+    MLDSA_HASH_CONTEXT_TOO_LONG = 6,  /**< hash_sign: the context has more than 255 bytes */
+    MLDSA_OID_EMPTY = 7,              /**< hash_sign: the object identifier is empty */
+    MLDSA_OID_NOT_DER = 8,            /**< hash_sign: the object identifier is not in DER */
+    MLDSA_DIGEST_TOO_LONG = 9,        /**< hash_sign: the digest has more than 1024 bytes */
+    MLDSA_DIGEST_LENGTH = 10,         /**< hash_sign: the digest has not the length of the function's digests */
+    MLDSA_TOO_MANY_ATTEMPTS = 13,     /**< signing: all 814 attempts were rejected, as with an inconsistent key */
+    MLDSA_KEY_RANGE = 14,             /**< the bytes are no private key */
+    MLDSA_SAMPLING_LIMIT = 15,        /**< rejection sampling reached its limit; no such input is known */
+    MLDSA_BROKEN_STATE = 16,          /**< mldsa_mu_update, mldsa_mu_finish: the last byte of the state is 0 or above 136 */
+    MLDSA_NOT_PREPARED = 17,          /**< a value of this prepared key is out of range, so no call has written it */
+    MLDSA_DER_CUT_SHORT = 18,         /**< an element of the DER is longer than what holds it */
+    MLDSA_DER_TRAILING = 19,          /**< something follows an element of the DER where nothing may */
+    MLDSA_DER_DAMAGED = 20,           /**< the DER has another element than is expected, or a length in another form */
+    MLDSA_DER_VERSION = 21,           /**< the version of the private key is not 0 */
+    MLDSA_DER_ALGORITHM = 22,         /**< the algorithm is none of the three, or has parameters */
+    MLDSA_DER_KEY_LENGTH = 23,        /**< the seed or key has another length than its algorithm's */
+    MLDSA_OTHER_SET = 24,             /**< the key is one of another parameter set */
+    MLDSA_INCONSISTENT = 25,          /**< the parts of the private key do not belong together */
+    MLDSA_NO_SEED = 26                /**< seed_from_der: the private key has no seed */
 };
 
 #define MLDSA_SEED_LEN 32
@@ -222,7 +160,7 @@ enum mldsa_status {
 /* A pointer for an array of length 0. */
 #define MLDSA_NOTHING ((const uint8_t *)"")
 
-/* The object identifiers of the twelve hash functions that FIPS 204 names, each an argument oid: MLDSA_OID_SHA2_256, MLDSA_OID_LEN. */
+/* The object identifiers of the twelve hash functions that FIPS 204 names, each an argument oid: MLDSA_OID_SHA2_512, MLDSA_OID_LEN. */
 #define MLDSA_OID_LEN 11
 #define MLDSA_OID(n) ((const uint8_t *)"\x06\x09\x60\x86\x48\x01\x65\x03\x04\x02" n)
 #define MLDSA_OID_SHA2_256 MLDSA_OID("\x01")
@@ -246,89 +184,200 @@ enum mldsa_status {
 #define MLDSA44_PREPARED_PUBLIC_KEY_LEN 17760
 #define MLDSA44_PREPARED_PRIVATE_KEY_LEN 18944
 
-#define MLDSA44_STACK_KEYGEN 57344
+#define MLDSA44_STACK_KEYGEN 53248
 #define MLDSA44_STACK_SIGN 116736
-#define MLDSA44_STACK_VERIFY 54272
+#define MLDSA44_STACK_VERIFY 51200
 #define MLDSA44_STACK_PUBLIC_KEY 88064
 #define MLDSA44_STACK_CHECK 49152
 #define MLDSA44_STACK_WHOLE 72704
 #define MLDSA44_STACK_PAIR 75776
 #define MLDSA44_STACK_PREPARE_PUBLIC_KEY 39936
-#define MLDSA44_STACK_VERIFY_PREPARED 48128
+#define MLDSA44_STACK_VERIFY_PREPARED 43008
 #define MLDSA44_STACK_PREPARE_PRIVATE_KEY 63488
 #define MLDSA44_STACK_SIGN_PREPARED 116736
 
-MLDSA_ANSWERS MLDSA_ARRAYS(1, 2) /* stack: MLDSA44_STACK_KEYGEN */
+/** Makes the key pair of a seed of MLDSA_SEED_LEN bytes. Whoever has the seed has the key.
+ * Needs MLDSA44_STACK_KEYGEN bytes of stack.
+ * @return MLDSA_DONE, MLDSA_WRONG_LENGTH, MLDSA_SAMPLING_LIMIT */
+MLDSA_ANSWERS MLDSA_ARRAYS(1, 2)
 uint32_t mldsa44_keygen(const uint8_t *seed, size_t seed_len, uint8_t *public_key, size_t public_key_len,
                         uint8_t *private_key, size_t private_key_len);
-MLDSA_ANSWERS MLDSA_ARRAYS(4, 1) /* stack: MLDSA44_STACK_SIGN */
+
+/** Signs a message under a context of at most 255 bytes. random has MLDSA_RANDOM_LEN bytes; with zeros the signature is the
+ * deterministic one of the standard, the same each time. The hash tr that is signed with the message is the one in the private
+ * key.
+ * Needs MLDSA44_STACK_SIGN bytes of stack.
+ * @return MLDSA_DONE, MLDSA_WRONG_LENGTH, MLDSA_KEY_RANGE, MLDSA_CONTEXT_TOO_LONG, MLDSA_SAMPLING_LIMIT,
+ * MLDSA_TOO_MANY_ATTEMPTS */
+MLDSA_ANSWERS MLDSA_ARRAYS(4, 1)
 uint32_t mldsa44_sign(const uint8_t *private_key, size_t private_key_len, const uint8_t *message, size_t message_len,
                       const uint8_t *context, size_t context_len, const uint8_t *random, size_t random_len,
                       uint8_t *signature, size_t signature_len);
-MLDSA_ANSWERS MLDSA_ARRAYS(4, 0) /* stack: MLDSA44_STACK_VERIFY */
+
+/** Tells whether the public key accepts the signature of the message under the context. Test for == MLDSA_YES and nothing else.
+ * If the context has more than 255 bytes, the result is MLDSA_NO.
+ * Needs MLDSA44_STACK_VERIFY bytes of stack.
+ * @return MLDSA_YES, MLDSA_WRONG_LENGTH, MLDSA_NO */
+MLDSA_ANSWERS MLDSA_ARRAYS(4, 0)
 uint32_t mldsa44_verify(const uint8_t *public_key, size_t public_key_len, const uint8_t *message, size_t message_len,
                         const uint8_t *context, size_t context_len, const uint8_t *signature, size_t signature_len);
-MLDSA_ANSWERS MLDSA_ARRAYS(4, 0) /* stack: MLDSA44_STACK_VERIFY */
+
+/** Tells the same as verify by 1 for yes and 0 for everything else, for languages in which 0 is false. Never compare the result
+ * with MLDSA_YES.
+ * Needs MLDSA44_STACK_VERIFY bytes of stack.
+ * @return 1 or 0 */
+MLDSA_ANSWERS MLDSA_ARRAYS(4, 0)
 uint32_t mldsa44_accepts(const uint8_t *public_key, size_t public_key_len, const uint8_t *message, size_t message_len,
                          const uint8_t *context, size_t context_len, const uint8_t *signature, size_t signature_len);
-MLDSA_ANSWERS MLDSA_ARRAYS(5, 1) /* stack: MLDSA44_STACK_SIGN */
+
+/** Signs the digest of a message that you hashed, under a context of at most 255 bytes (HashML-DSA). oid names the hash
+ * function, as MLDSA_OID_SHA2_512 with MLDSA_OID_LEN. If it is one of the twelve that FIPS 204 names, the digest must have its
+ * length; with another, at most 1024 bytes. random is that of sign.
+ * Needs MLDSA44_STACK_SIGN bytes of stack.
+ * @return MLDSA_DONE, MLDSA_WRONG_LENGTH, MLDSA_KEY_RANGE, MLDSA_HASH_CONTEXT_TOO_LONG, MLDSA_OID_EMPTY, MLDSA_OID_NOT_DER,
+ * MLDSA_DIGEST_TOO_LONG, MLDSA_DIGEST_LENGTH, MLDSA_SAMPLING_LIMIT, MLDSA_TOO_MANY_ATTEMPTS */
+MLDSA_ANSWERS MLDSA_ARRAYS(5, 1)
 uint32_t mldsa44_hash_sign(const uint8_t *private_key, size_t private_key_len,
                            const uint8_t *digest, size_t digest_len, const uint8_t *context, size_t context_len,
                            const uint8_t *oid, size_t oid_len, const uint8_t *random, size_t random_len,
                            uint8_t *signature, size_t signature_len);
-MLDSA_ANSWERS MLDSA_ARRAYS(5, 0) /* stack: MLDSA44_STACK_VERIFY */
+
+/** Tells whether the public key accepts the signature that hash_sign made of the digest. If hash_sign would not sign this
+ * digest with this oid, the result is MLDSA_NO.
+ * Needs MLDSA44_STACK_VERIFY bytes of stack.
+ * @return MLDSA_YES, MLDSA_WRONG_LENGTH, MLDSA_NO */
+MLDSA_ANSWERS MLDSA_ARRAYS(5, 0)
 uint32_t mldsa44_hash_verify(const uint8_t *public_key, size_t public_key_len,
                              const uint8_t *digest, size_t digest_len, const uint8_t *context, size_t context_len,
                              const uint8_t *oid, size_t oid_len, const uint8_t *signature, size_t signature_len);
-MLDSA_ANSWERS MLDSA_ARRAYS(3, 1) /* stack: MLDSA44_STACK_SIGN */
+
+/** Signs the message of which this is mu. mu has MLDSA_MU_LEN bytes: the first 64 bytes of SHAKE256 over tr, 00, the context's
+ * length as a byte, the context and the message, where tr are the first 64 bytes of SHAKE256 over the public key. The
+ * signature is the one that sign makes, if the private key keeps this tr. mldsa_mu_finish writes such a mu.
+ * Needs MLDSA44_STACK_SIGN bytes of stack.
+ * @return MLDSA_DONE, MLDSA_WRONG_LENGTH, MLDSA_KEY_RANGE, MLDSA_SAMPLING_LIMIT, MLDSA_TOO_MANY_ATTEMPTS */
+MLDSA_ANSWERS MLDSA_ARRAYS(3, 1)
 uint32_t mldsa44_sign_mu(const uint8_t *private_key, size_t private_key_len, const uint8_t *mu, size_t mu_len,
                          const uint8_t *random, size_t random_len, uint8_t *signature, size_t signature_len);
-MLDSA_ANSWERS MLDSA_ARRAYS(3, 0) /* stack: MLDSA44_STACK_VERIFY */
+
+/** Tells whether the public key accepts the signature of the message of which this is mu, as sign_mu has it.
+ * Needs MLDSA44_STACK_VERIFY bytes of stack.
+ * @return MLDSA_YES, MLDSA_WRONG_LENGTH, MLDSA_NO */
+MLDSA_ANSWERS MLDSA_ARRAYS(3, 0)
 uint32_t mldsa44_verify_mu(const uint8_t *public_key, size_t public_key_len, const uint8_t *mu, size_t mu_len,
                            const uint8_t *signature, size_t signature_len);
-MLDSA_ANSWERS MLDSA_ARRAYS(1, 1) /* stack: MLDSA44_STACK_PUBLIC_KEY */
+
+/** Writes the public key that belongs to a private key.
+ * Needs MLDSA44_STACK_PUBLIC_KEY bytes of stack.
+ * @return MLDSA_DONE, MLDSA_WRONG_LENGTH, MLDSA_KEY_RANGE, MLDSA_SAMPLING_LIMIT */
+MLDSA_ANSWERS MLDSA_ARRAYS(1, 1)
 uint32_t mldsa44_public_key(const uint8_t *private_key, size_t private_key_len,
                             uint8_t *public_key, size_t public_key_len);
-MLDSA_ANSWERS MLDSA_ARRAYS(1, 0) /* stack: MLDSA44_STACK_CHECK */
+
+/** Tells whether the bytes are a private key at all, which each call with a private key checks too. Ask is_pair whether its
+ * parts belong together.
+ * Needs MLDSA44_STACK_CHECK bytes of stack.
+ * @return MLDSA_DONE, MLDSA_WRONG_LENGTH, MLDSA_KEY_RANGE */
+MLDSA_ANSWERS MLDSA_ARRAYS(1, 0)
 uint32_t mldsa44_check_private_key(const uint8_t *private_key, size_t private_key_len);
-MLDSA_ANSWERS MLDSA_ARRAYS(1, 0) /* stack: MLDSA44_STACK_WHOLE */
+
+/** Tells whether the part t0 of a private key belongs to its parts s1 and s2, and ignores its hash tr. You want is_pair, unless
+ * you know why not.
+ * Needs MLDSA44_STACK_WHOLE bytes of stack.
+ * @return MLDSA_YES, MLDSA_WRONG_LENGTH, MLDSA_NO, MLDSA_KEY_RANGE, MLDSA_SAMPLING_LIMIT */
+MLDSA_ANSWERS MLDSA_ARRAYS(1, 0)
 uint32_t mldsa44_is_whole(const uint8_t *private_key, size_t private_key_len);
-MLDSA_ANSWERS MLDSA_ARRAYS(1, 0) /* stack: MLDSA44_STACK_PAIR */
+
+/** Tells whether the parts of a private key from elsewhere belong together. If so, whatever it signs is accepted under the
+ * public key that public_key writes; keygen makes no other keys. If not, its t0 or tr is not its own, and what it signs may be
+ * accepted or not.
+ * Needs MLDSA44_STACK_PAIR bytes of stack.
+ * @return MLDSA_YES, MLDSA_WRONG_LENGTH, MLDSA_NO, MLDSA_KEY_RANGE, MLDSA_SAMPLING_LIMIT */
+MLDSA_ANSWERS MLDSA_ARRAYS(1, 0)
 uint32_t mldsa44_is_pair(const uint8_t *private_key, size_t private_key_len);
-MLDSA_ANSWERS MLDSA_ARRAYS(2, 1) /* stack: MLDSA_STACK_MU */
+
+/** Begins a message in pieces, under a context of at most 255 bytes, for the public key that verifies it: writes a state of
+ * MLDSA_STATE_LEN bytes. Then mldsa_mu_update adds pieces, and mldsa_mu_finish writes mu.
+ * Needs MLDSA_STACK_MU bytes of stack.
+ * @return MLDSA_DONE, MLDSA_WRONG_LENGTH, MLDSA_CONTEXT_TOO_LONG */
+MLDSA_ANSWERS MLDSA_ARRAYS(2, 1)
 uint32_t mldsa44_mu_begin(const uint8_t *public_key, size_t public_key_len, const uint8_t *context, size_t context_len,
                           uint8_t *state, size_t state_len);
-MLDSA_ANSWERS MLDSA_ARRAYS(2, 1) /* stack: MLDSA_STACK_MU */
+
+/** Begins a message in pieces as mu_begin does, for the private key that signs it, with the hash tr that this keeps.
+ * Needs MLDSA_STACK_MU bytes of stack.
+ * @return MLDSA_DONE, MLDSA_WRONG_LENGTH, MLDSA_CONTEXT_TOO_LONG */
+MLDSA_ANSWERS MLDSA_ARRAYS(2, 1)
 uint32_t mldsa44_mu_begin_private(const uint8_t *private_key, size_t private_key_len,
                                   const uint8_t *context, size_t context_len, uint8_t *state, size_t state_len);
-MLDSA_ANSWERS MLDSA_ARRAYS(1, 1) /* stack: MLDSA44_STACK_PREPARE_PUBLIC_KEY */
+
+/** Writes a prepared public key: the bytes of the key, and behind them what each call would compute from them anew. Keep it
+ * where nobody can change it: a changed one may accept what nobody signed.
+ * Needs MLDSA44_STACK_PREPARE_PUBLIC_KEY bytes of stack.
+ * @return MLDSA_DONE, MLDSA_WRONG_LENGTH, MLDSA_SAMPLING_LIMIT */
+MLDSA_ANSWERS MLDSA_ARRAYS(1, 1)
 uint32_t mldsa44_prepare_public_key(const uint8_t *public_key, size_t public_key_len,
                                     uint8_t *prepared_public_key, size_t prepared_public_key_len);
-MLDSA_ANSWERS MLDSA_ARRAYS(1, 1) /* stack: MLDSA44_STACK_PREPARE_PRIVATE_KEY */
+
+/** Writes a prepared private key: the bytes of the key, and behind them what each call would compute from them anew. Keep it as
+ * secret as the private key, and where nobody can change it: what a changed one signs may tell the key.
+ * Needs MLDSA44_STACK_PREPARE_PRIVATE_KEY bytes of stack.
+ * @return MLDSA_DONE, MLDSA_WRONG_LENGTH, MLDSA_KEY_RANGE, MLDSA_SAMPLING_LIMIT */
+MLDSA_ANSWERS MLDSA_ARRAYS(1, 1)
 uint32_t mldsa44_prepare_private_key(const uint8_t *private_key, size_t private_key_len,
                                      uint8_t *prepared_private_key, size_t prepared_private_key_len);
-MLDSA_ANSWERS MLDSA_ARRAYS(4, 1) /* stack: MLDSA44_STACK_SIGN_PREPARED */
+
+/** Does what sign does with the key that was prepared, in less time. Any bytes are safe in a prepared key, but nothing
+ * checks that its parts belong together: MLDSA_NOT_PREPARED says that a value of its matrix is 8380417 or more, or that a
+ * coefficient of s1 or s2 is out of range. With the matrix or tr of another key, which no call writes, the signature means nothing.
+ * Needs MLDSA44_STACK_SIGN_PREPARED bytes of stack.
+ * @return MLDSA_DONE, MLDSA_WRONG_LENGTH, MLDSA_NOT_PREPARED, MLDSA_CONTEXT_TOO_LONG, MLDSA_SAMPLING_LIMIT,
+ * MLDSA_TOO_MANY_ATTEMPTS */
+MLDSA_ANSWERS MLDSA_ARRAYS(4, 1)
 uint32_t mldsa44_sign_prepared(const uint8_t *prepared_private_key, size_t prepared_private_key_len,
                                const uint8_t *message, size_t message_len, const uint8_t *context, size_t context_len,
                                const uint8_t *random, size_t random_len, uint8_t *signature, size_t signature_len);
-MLDSA_ANSWERS MLDSA_ARRAYS(4, 0) /* stack: MLDSA44_STACK_VERIFY_PREPARED */
+
+/** Does what verify does with the key that was prepared, in less time. Any bytes are safe in a prepared key, but nothing
+ * checks that its parts belong together: MLDSA_NOT_PREPARED says that a value of its matrix is 8380417 or more. With the
+ * matrix or tr of another key, which no call writes, the verdict means nothing.
+ * Needs MLDSA44_STACK_VERIFY_PREPARED bytes of stack.
+ * @return MLDSA_YES, MLDSA_WRONG_LENGTH, MLDSA_NO, MLDSA_NOT_PREPARED */
+MLDSA_ANSWERS MLDSA_ARRAYS(4, 0)
 uint32_t mldsa44_verify_prepared(const uint8_t *prepared_public_key, size_t prepared_public_key_len,
                                  const uint8_t *message, size_t message_len, const uint8_t *context, size_t context_len,
                                  const uint8_t *signature, size_t signature_len);
-MLDSA_ANSWERS MLDSA_ARRAYS(5, 1) /* stack: MLDSA44_STACK_SIGN_PREPARED */
+
+/** Does what hash_sign does with the key that was prepared.
+ * Needs MLDSA44_STACK_SIGN_PREPARED bytes of stack.
+ * @return MLDSA_DONE, MLDSA_WRONG_LENGTH, MLDSA_NOT_PREPARED, MLDSA_HASH_CONTEXT_TOO_LONG, MLDSA_OID_EMPTY, MLDSA_OID_NOT_DER,
+ * MLDSA_DIGEST_TOO_LONG, MLDSA_DIGEST_LENGTH, MLDSA_SAMPLING_LIMIT, MLDSA_TOO_MANY_ATTEMPTS */
+MLDSA_ANSWERS MLDSA_ARRAYS(5, 1)
 uint32_t mldsa44_hash_sign_prepared(const uint8_t *prepared_private_key, size_t prepared_private_key_len,
                                     const uint8_t *digest, size_t digest_len, const uint8_t *context, size_t context_len,
                                     const uint8_t *oid, size_t oid_len, const uint8_t *random, size_t random_len,
                                     uint8_t *signature, size_t signature_len);
-MLDSA_ANSWERS MLDSA_ARRAYS(5, 0) /* stack: MLDSA44_STACK_VERIFY_PREPARED */
+
+/** Does what hash_verify does with the key that was prepared.
+ * Needs MLDSA44_STACK_VERIFY_PREPARED bytes of stack.
+ * @return MLDSA_YES, MLDSA_WRONG_LENGTH, MLDSA_NO, MLDSA_NOT_PREPARED */
+MLDSA_ANSWERS MLDSA_ARRAYS(5, 0)
 uint32_t mldsa44_hash_verify_prepared(const uint8_t *prepared_public_key, size_t prepared_public_key_len,
                                       const uint8_t *digest, size_t digest_len, const uint8_t *context, size_t context_len,
                                       const uint8_t *oid, size_t oid_len, const uint8_t *signature, size_t signature_len);
-MLDSA_ANSWERS MLDSA_ARRAYS(3, 1) /* stack: MLDSA44_STACK_SIGN_PREPARED */
+
+/** Does what sign_mu does with the key that was prepared.
+ * Needs MLDSA44_STACK_SIGN_PREPARED bytes of stack.
+ * @return MLDSA_DONE, MLDSA_WRONG_LENGTH, MLDSA_NOT_PREPARED, MLDSA_SAMPLING_LIMIT, MLDSA_TOO_MANY_ATTEMPTS */
+MLDSA_ANSWERS MLDSA_ARRAYS(3, 1)
 uint32_t mldsa44_sign_mu_prepared(const uint8_t *prepared_private_key, size_t prepared_private_key_len,
                                   const uint8_t *mu, size_t mu_len, const uint8_t *random, size_t random_len,
                                   uint8_t *signature, size_t signature_len);
-MLDSA_ANSWERS MLDSA_ARRAYS(3, 0) /* stack: MLDSA44_STACK_VERIFY_PREPARED */
+
+/** Does what verify_mu does with the key that was prepared.
+ * Needs MLDSA44_STACK_VERIFY_PREPARED bytes of stack.
+ * @return MLDSA_YES, MLDSA_WRONG_LENGTH, MLDSA_NO, MLDSA_NOT_PREPARED */
+MLDSA_ANSWERS MLDSA_ARRAYS(3, 0)
 uint32_t mldsa44_verify_mu_prepared(const uint8_t *prepared_public_key, size_t prepared_public_key_len,
                                     const uint8_t *mu, size_t mu_len, const uint8_t *signature, size_t signature_len);
 
@@ -340,89 +389,200 @@ uint32_t mldsa44_verify_mu_prepared(const uint8_t *prepared_public_key, size_t p
 #define MLDSA65_PREPARED_PUBLIC_KEY_LEN 32736
 #define MLDSA65_PREPARED_PRIVATE_KEY_LEN 34752
 
-#define MLDSA65_STACK_KEYGEN 73728
+#define MLDSA65_STACK_KEYGEN 71680
 #define MLDSA65_STACK_SIGN 153600
-#define MLDSA65_STACK_VERIFY 66560
+#define MLDSA65_STACK_VERIFY 64512
 #define MLDSA65_STACK_PUBLIC_KEY 126976
 #define MLDSA65_STACK_CHECK 69632
 #define MLDSA65_STACK_WHOLE 103424
 #define MLDSA65_STACK_PAIR 108544
 #define MLDSA65_STACK_PREPARE_PUBLIC_KEY 73728
-#define MLDSA65_STACK_VERIFY_PREPARED 57344
+#define MLDSA65_STACK_VERIFY_PREPARED 51200
 #define MLDSA65_STACK_PREPARE_PRIVATE_KEY 96256
 #define MLDSA65_STACK_SIGN_PREPARED 153600
 
-MLDSA_ANSWERS MLDSA_ARRAYS(1, 2) /* stack: MLDSA65_STACK_KEYGEN */
+/** Makes the key pair of a seed of MLDSA_SEED_LEN bytes. Whoever has the seed has the key.
+ * Needs MLDSA65_STACK_KEYGEN bytes of stack.
+ * @return MLDSA_DONE, MLDSA_WRONG_LENGTH, MLDSA_SAMPLING_LIMIT */
+MLDSA_ANSWERS MLDSA_ARRAYS(1, 2)
 uint32_t mldsa65_keygen(const uint8_t *seed, size_t seed_len, uint8_t *public_key, size_t public_key_len,
                         uint8_t *private_key, size_t private_key_len);
-MLDSA_ANSWERS MLDSA_ARRAYS(4, 1) /* stack: MLDSA65_STACK_SIGN */
+
+/** Signs a message under a context of at most 255 bytes. random has MLDSA_RANDOM_LEN bytes; with zeros the signature is the
+ * deterministic one of the standard, the same each time. The hash tr that is signed with the message is the one in the private
+ * key.
+ * Needs MLDSA65_STACK_SIGN bytes of stack.
+ * @return MLDSA_DONE, MLDSA_WRONG_LENGTH, MLDSA_KEY_RANGE, MLDSA_CONTEXT_TOO_LONG, MLDSA_SAMPLING_LIMIT,
+ * MLDSA_TOO_MANY_ATTEMPTS */
+MLDSA_ANSWERS MLDSA_ARRAYS(4, 1)
 uint32_t mldsa65_sign(const uint8_t *private_key, size_t private_key_len, const uint8_t *message, size_t message_len,
                       const uint8_t *context, size_t context_len, const uint8_t *random, size_t random_len,
                       uint8_t *signature, size_t signature_len);
-MLDSA_ANSWERS MLDSA_ARRAYS(4, 0) /* stack: MLDSA65_STACK_VERIFY */
+
+/** Tells whether the public key accepts the signature of the message under the context. Test for == MLDSA_YES and nothing else.
+ * If the context has more than 255 bytes, the result is MLDSA_NO.
+ * Needs MLDSA65_STACK_VERIFY bytes of stack.
+ * @return MLDSA_YES, MLDSA_WRONG_LENGTH, MLDSA_NO */
+MLDSA_ANSWERS MLDSA_ARRAYS(4, 0)
 uint32_t mldsa65_verify(const uint8_t *public_key, size_t public_key_len, const uint8_t *message, size_t message_len,
                         const uint8_t *context, size_t context_len, const uint8_t *signature, size_t signature_len);
-MLDSA_ANSWERS MLDSA_ARRAYS(4, 0) /* stack: MLDSA65_STACK_VERIFY */
+
+/** Tells the same as verify by 1 for yes and 0 for everything else, for languages in which 0 is false. Never compare the result
+ * with MLDSA_YES.
+ * Needs MLDSA65_STACK_VERIFY bytes of stack.
+ * @return 1 or 0 */
+MLDSA_ANSWERS MLDSA_ARRAYS(4, 0)
 uint32_t mldsa65_accepts(const uint8_t *public_key, size_t public_key_len, const uint8_t *message, size_t message_len,
                          const uint8_t *context, size_t context_len, const uint8_t *signature, size_t signature_len);
-MLDSA_ANSWERS MLDSA_ARRAYS(5, 1) /* stack: MLDSA65_STACK_SIGN */
+
+/** Signs the digest of a message that you hashed, under a context of at most 255 bytes (HashML-DSA). oid names the hash
+ * function, as MLDSA_OID_SHA2_512 with MLDSA_OID_LEN. If it is one of the twelve that FIPS 204 names, the digest must have its
+ * length; with another, at most 1024 bytes. random is that of sign.
+ * Needs MLDSA65_STACK_SIGN bytes of stack.
+ * @return MLDSA_DONE, MLDSA_WRONG_LENGTH, MLDSA_KEY_RANGE, MLDSA_HASH_CONTEXT_TOO_LONG, MLDSA_OID_EMPTY, MLDSA_OID_NOT_DER,
+ * MLDSA_DIGEST_TOO_LONG, MLDSA_DIGEST_LENGTH, MLDSA_SAMPLING_LIMIT, MLDSA_TOO_MANY_ATTEMPTS */
+MLDSA_ANSWERS MLDSA_ARRAYS(5, 1)
 uint32_t mldsa65_hash_sign(const uint8_t *private_key, size_t private_key_len,
                            const uint8_t *digest, size_t digest_len, const uint8_t *context, size_t context_len,
                            const uint8_t *oid, size_t oid_len, const uint8_t *random, size_t random_len,
                            uint8_t *signature, size_t signature_len);
-MLDSA_ANSWERS MLDSA_ARRAYS(5, 0) /* stack: MLDSA65_STACK_VERIFY */
+
+/** Tells whether the public key accepts the signature that hash_sign made of the digest. If hash_sign would not sign this
+ * digest with this oid, the result is MLDSA_NO.
+ * Needs MLDSA65_STACK_VERIFY bytes of stack.
+ * @return MLDSA_YES, MLDSA_WRONG_LENGTH, MLDSA_NO */
+MLDSA_ANSWERS MLDSA_ARRAYS(5, 0)
 uint32_t mldsa65_hash_verify(const uint8_t *public_key, size_t public_key_len,
                              const uint8_t *digest, size_t digest_len, const uint8_t *context, size_t context_len,
                              const uint8_t *oid, size_t oid_len, const uint8_t *signature, size_t signature_len);
-MLDSA_ANSWERS MLDSA_ARRAYS(3, 1) /* stack: MLDSA65_STACK_SIGN */
+
+/** Signs the message of which this is mu. mu has MLDSA_MU_LEN bytes: the first 64 bytes of SHAKE256 over tr, 00, the context's
+ * length as a byte, the context and the message, where tr are the first 64 bytes of SHAKE256 over the public key. The
+ * signature is the one that sign makes, if the private key keeps this tr. mldsa_mu_finish writes such a mu.
+ * Needs MLDSA65_STACK_SIGN bytes of stack.
+ * @return MLDSA_DONE, MLDSA_WRONG_LENGTH, MLDSA_KEY_RANGE, MLDSA_SAMPLING_LIMIT, MLDSA_TOO_MANY_ATTEMPTS */
+MLDSA_ANSWERS MLDSA_ARRAYS(3, 1)
 uint32_t mldsa65_sign_mu(const uint8_t *private_key, size_t private_key_len, const uint8_t *mu, size_t mu_len,
                          const uint8_t *random, size_t random_len, uint8_t *signature, size_t signature_len);
-MLDSA_ANSWERS MLDSA_ARRAYS(3, 0) /* stack: MLDSA65_STACK_VERIFY */
+
+/** Tells whether the public key accepts the signature of the message of which this is mu, as sign_mu has it.
+ * Needs MLDSA65_STACK_VERIFY bytes of stack.
+ * @return MLDSA_YES, MLDSA_WRONG_LENGTH, MLDSA_NO */
+MLDSA_ANSWERS MLDSA_ARRAYS(3, 0)
 uint32_t mldsa65_verify_mu(const uint8_t *public_key, size_t public_key_len, const uint8_t *mu, size_t mu_len,
                            const uint8_t *signature, size_t signature_len);
-MLDSA_ANSWERS MLDSA_ARRAYS(1, 1) /* stack: MLDSA65_STACK_PUBLIC_KEY */
+
+/** Writes the public key that belongs to a private key.
+ * Needs MLDSA65_STACK_PUBLIC_KEY bytes of stack.
+ * @return MLDSA_DONE, MLDSA_WRONG_LENGTH, MLDSA_KEY_RANGE, MLDSA_SAMPLING_LIMIT */
+MLDSA_ANSWERS MLDSA_ARRAYS(1, 1)
 uint32_t mldsa65_public_key(const uint8_t *private_key, size_t private_key_len,
                             uint8_t *public_key, size_t public_key_len);
-MLDSA_ANSWERS MLDSA_ARRAYS(1, 0) /* stack: MLDSA65_STACK_CHECK */
+
+/** Tells whether the bytes are a private key at all, which each call with a private key checks too. Ask is_pair whether its
+ * parts belong together.
+ * Needs MLDSA65_STACK_CHECK bytes of stack.
+ * @return MLDSA_DONE, MLDSA_WRONG_LENGTH, MLDSA_KEY_RANGE */
+MLDSA_ANSWERS MLDSA_ARRAYS(1, 0)
 uint32_t mldsa65_check_private_key(const uint8_t *private_key, size_t private_key_len);
-MLDSA_ANSWERS MLDSA_ARRAYS(1, 0) /* stack: MLDSA65_STACK_WHOLE */
+
+/** Tells whether the part t0 of a private key belongs to its parts s1 and s2, and ignores its hash tr. You want is_pair, unless
+ * you know why not.
+ * Needs MLDSA65_STACK_WHOLE bytes of stack.
+ * @return MLDSA_YES, MLDSA_WRONG_LENGTH, MLDSA_NO, MLDSA_KEY_RANGE, MLDSA_SAMPLING_LIMIT */
+MLDSA_ANSWERS MLDSA_ARRAYS(1, 0)
 uint32_t mldsa65_is_whole(const uint8_t *private_key, size_t private_key_len);
-MLDSA_ANSWERS MLDSA_ARRAYS(1, 0) /* stack: MLDSA65_STACK_PAIR */
+
+/** Tells whether the parts of a private key from elsewhere belong together. If so, whatever it signs is accepted under the
+ * public key that public_key writes; keygen makes no other keys. If not, its t0 or tr is not its own, and what it signs may be
+ * accepted or not.
+ * Needs MLDSA65_STACK_PAIR bytes of stack.
+ * @return MLDSA_YES, MLDSA_WRONG_LENGTH, MLDSA_NO, MLDSA_KEY_RANGE, MLDSA_SAMPLING_LIMIT */
+MLDSA_ANSWERS MLDSA_ARRAYS(1, 0)
 uint32_t mldsa65_is_pair(const uint8_t *private_key, size_t private_key_len);
-MLDSA_ANSWERS MLDSA_ARRAYS(2, 1) /* stack: MLDSA_STACK_MU */
+
+/** Begins a message in pieces, under a context of at most 255 bytes, for the public key that verifies it: writes a state of
+ * MLDSA_STATE_LEN bytes. Then mldsa_mu_update adds pieces, and mldsa_mu_finish writes mu.
+ * Needs MLDSA_STACK_MU bytes of stack.
+ * @return MLDSA_DONE, MLDSA_WRONG_LENGTH, MLDSA_CONTEXT_TOO_LONG */
+MLDSA_ANSWERS MLDSA_ARRAYS(2, 1)
 uint32_t mldsa65_mu_begin(const uint8_t *public_key, size_t public_key_len, const uint8_t *context, size_t context_len,
                           uint8_t *state, size_t state_len);
-MLDSA_ANSWERS MLDSA_ARRAYS(2, 1) /* stack: MLDSA_STACK_MU */
+
+/** Begins a message in pieces as mu_begin does, for the private key that signs it, with the hash tr that this keeps.
+ * Needs MLDSA_STACK_MU bytes of stack.
+ * @return MLDSA_DONE, MLDSA_WRONG_LENGTH, MLDSA_CONTEXT_TOO_LONG */
+MLDSA_ANSWERS MLDSA_ARRAYS(2, 1)
 uint32_t mldsa65_mu_begin_private(const uint8_t *private_key, size_t private_key_len,
                                   const uint8_t *context, size_t context_len, uint8_t *state, size_t state_len);
-MLDSA_ANSWERS MLDSA_ARRAYS(1, 1) /* stack: MLDSA65_STACK_PREPARE_PUBLIC_KEY */
+
+/** Writes a prepared public key: the bytes of the key, and behind them what each call would compute from them anew. Keep it
+ * where nobody can change it: a changed one may accept what nobody signed.
+ * Needs MLDSA65_STACK_PREPARE_PUBLIC_KEY bytes of stack.
+ * @return MLDSA_DONE, MLDSA_WRONG_LENGTH, MLDSA_SAMPLING_LIMIT */
+MLDSA_ANSWERS MLDSA_ARRAYS(1, 1)
 uint32_t mldsa65_prepare_public_key(const uint8_t *public_key, size_t public_key_len,
                                     uint8_t *prepared_public_key, size_t prepared_public_key_len);
-MLDSA_ANSWERS MLDSA_ARRAYS(1, 1) /* stack: MLDSA65_STACK_PREPARE_PRIVATE_KEY */
+
+/** Writes a prepared private key: the bytes of the key, and behind them what each call would compute from them anew. Keep it as
+ * secret as the private key, and where nobody can change it: what a changed one signs may tell the key.
+ * Needs MLDSA65_STACK_PREPARE_PRIVATE_KEY bytes of stack.
+ * @return MLDSA_DONE, MLDSA_WRONG_LENGTH, MLDSA_KEY_RANGE, MLDSA_SAMPLING_LIMIT */
+MLDSA_ANSWERS MLDSA_ARRAYS(1, 1)
 uint32_t mldsa65_prepare_private_key(const uint8_t *private_key, size_t private_key_len,
                                      uint8_t *prepared_private_key, size_t prepared_private_key_len);
-MLDSA_ANSWERS MLDSA_ARRAYS(4, 1) /* stack: MLDSA65_STACK_SIGN_PREPARED */
+
+/** Does what sign does with the key that was prepared, in less time. Any bytes are safe in a prepared key, but nothing
+ * checks that its parts belong together: MLDSA_NOT_PREPARED says that a value of its matrix is 8380417 or more, or that a
+ * coefficient of s1 or s2 is out of range. With the matrix or tr of another key, which no call writes, the signature means nothing.
+ * Needs MLDSA65_STACK_SIGN_PREPARED bytes of stack.
+ * @return MLDSA_DONE, MLDSA_WRONG_LENGTH, MLDSA_NOT_PREPARED, MLDSA_CONTEXT_TOO_LONG, MLDSA_SAMPLING_LIMIT,
+ * MLDSA_TOO_MANY_ATTEMPTS */
+MLDSA_ANSWERS MLDSA_ARRAYS(4, 1)
 uint32_t mldsa65_sign_prepared(const uint8_t *prepared_private_key, size_t prepared_private_key_len,
                                const uint8_t *message, size_t message_len, const uint8_t *context, size_t context_len,
                                const uint8_t *random, size_t random_len, uint8_t *signature, size_t signature_len);
-MLDSA_ANSWERS MLDSA_ARRAYS(4, 0) /* stack: MLDSA65_STACK_VERIFY_PREPARED */
+
+/** Does what verify does with the key that was prepared, in less time. Any bytes are safe in a prepared key, but nothing
+ * checks that its parts belong together: MLDSA_NOT_PREPARED says that a value of its matrix is 8380417 or more. With the
+ * matrix or tr of another key, which no call writes, the verdict means nothing.
+ * Needs MLDSA65_STACK_VERIFY_PREPARED bytes of stack.
+ * @return MLDSA_YES, MLDSA_WRONG_LENGTH, MLDSA_NO, MLDSA_NOT_PREPARED */
+MLDSA_ANSWERS MLDSA_ARRAYS(4, 0)
 uint32_t mldsa65_verify_prepared(const uint8_t *prepared_public_key, size_t prepared_public_key_len,
                                  const uint8_t *message, size_t message_len, const uint8_t *context, size_t context_len,
                                  const uint8_t *signature, size_t signature_len);
-MLDSA_ANSWERS MLDSA_ARRAYS(5, 1) /* stack: MLDSA65_STACK_SIGN_PREPARED */
+
+/** Does what hash_sign does with the key that was prepared.
+ * Needs MLDSA65_STACK_SIGN_PREPARED bytes of stack.
+ * @return MLDSA_DONE, MLDSA_WRONG_LENGTH, MLDSA_NOT_PREPARED, MLDSA_HASH_CONTEXT_TOO_LONG, MLDSA_OID_EMPTY, MLDSA_OID_NOT_DER,
+ * MLDSA_DIGEST_TOO_LONG, MLDSA_DIGEST_LENGTH, MLDSA_SAMPLING_LIMIT, MLDSA_TOO_MANY_ATTEMPTS */
+MLDSA_ANSWERS MLDSA_ARRAYS(5, 1)
 uint32_t mldsa65_hash_sign_prepared(const uint8_t *prepared_private_key, size_t prepared_private_key_len,
                                     const uint8_t *digest, size_t digest_len, const uint8_t *context, size_t context_len,
                                     const uint8_t *oid, size_t oid_len, const uint8_t *random, size_t random_len,
                                     uint8_t *signature, size_t signature_len);
-MLDSA_ANSWERS MLDSA_ARRAYS(5, 0) /* stack: MLDSA65_STACK_VERIFY_PREPARED */
+
+/** Does what hash_verify does with the key that was prepared.
+ * Needs MLDSA65_STACK_VERIFY_PREPARED bytes of stack.
+ * @return MLDSA_YES, MLDSA_WRONG_LENGTH, MLDSA_NO, MLDSA_NOT_PREPARED */
+MLDSA_ANSWERS MLDSA_ARRAYS(5, 0)
 uint32_t mldsa65_hash_verify_prepared(const uint8_t *prepared_public_key, size_t prepared_public_key_len,
                                       const uint8_t *digest, size_t digest_len, const uint8_t *context, size_t context_len,
                                       const uint8_t *oid, size_t oid_len, const uint8_t *signature, size_t signature_len);
-MLDSA_ANSWERS MLDSA_ARRAYS(3, 1) /* stack: MLDSA65_STACK_SIGN_PREPARED */
+
+/** Does what sign_mu does with the key that was prepared.
+ * Needs MLDSA65_STACK_SIGN_PREPARED bytes of stack.
+ * @return MLDSA_DONE, MLDSA_WRONG_LENGTH, MLDSA_NOT_PREPARED, MLDSA_SAMPLING_LIMIT, MLDSA_TOO_MANY_ATTEMPTS */
+MLDSA_ANSWERS MLDSA_ARRAYS(3, 1)
 uint32_t mldsa65_sign_mu_prepared(const uint8_t *prepared_private_key, size_t prepared_private_key_len,
                                   const uint8_t *mu, size_t mu_len, const uint8_t *random, size_t random_len,
                                   uint8_t *signature, size_t signature_len);
-MLDSA_ANSWERS MLDSA_ARRAYS(3, 0) /* stack: MLDSA65_STACK_VERIFY_PREPARED */
+
+/** Does what verify_mu does with the key that was prepared.
+ * Needs MLDSA65_STACK_VERIFY_PREPARED bytes of stack.
+ * @return MLDSA_YES, MLDSA_WRONG_LENGTH, MLDSA_NO, MLDSA_NOT_PREPARED */
+MLDSA_ANSWERS MLDSA_ARRAYS(3, 0)
 uint32_t mldsa65_verify_mu_prepared(const uint8_t *prepared_public_key, size_t prepared_public_key_len,
                                     const uint8_t *mu, size_t mu_len, const uint8_t *signature, size_t signature_len);
 
@@ -442,81 +602,192 @@ uint32_t mldsa65_verify_mu_prepared(const uint8_t *prepared_public_key, size_t p
 #define MLDSA87_STACK_WHOLE 138240
 #define MLDSA87_STACK_PAIR 146432
 #define MLDSA87_STACK_PREPARE_PUBLIC_KEY 114688
-#define MLDSA87_STACK_VERIFY_PREPARED 74752
+#define MLDSA87_STACK_VERIFY_PREPARED 66560
 #define MLDSA87_STACK_PREPARE_PRIVATE_KEY 142336
 #define MLDSA87_STACK_SIGN_PREPARED 209920
 
-MLDSA_ANSWERS MLDSA_ARRAYS(1, 2) /* stack: MLDSA87_STACK_KEYGEN */
+/** Makes the key pair of a seed of MLDSA_SEED_LEN bytes. Whoever has the seed has the key.
+ * Needs MLDSA87_STACK_KEYGEN bytes of stack.
+ * @return MLDSA_DONE, MLDSA_WRONG_LENGTH, MLDSA_SAMPLING_LIMIT */
+MLDSA_ANSWERS MLDSA_ARRAYS(1, 2)
 uint32_t mldsa87_keygen(const uint8_t *seed, size_t seed_len, uint8_t *public_key, size_t public_key_len,
                         uint8_t *private_key, size_t private_key_len);
-MLDSA_ANSWERS MLDSA_ARRAYS(4, 1) /* stack: MLDSA87_STACK_SIGN */
+
+/** Signs a message under a context of at most 255 bytes. random has MLDSA_RANDOM_LEN bytes; with zeros the signature is the
+ * deterministic one of the standard, the same each time. The hash tr that is signed with the message is the one in the private
+ * key.
+ * Needs MLDSA87_STACK_SIGN bytes of stack.
+ * @return MLDSA_DONE, MLDSA_WRONG_LENGTH, MLDSA_KEY_RANGE, MLDSA_CONTEXT_TOO_LONG, MLDSA_SAMPLING_LIMIT,
+ * MLDSA_TOO_MANY_ATTEMPTS */
+MLDSA_ANSWERS MLDSA_ARRAYS(4, 1)
 uint32_t mldsa87_sign(const uint8_t *private_key, size_t private_key_len, const uint8_t *message, size_t message_len,
                       const uint8_t *context, size_t context_len, const uint8_t *random, size_t random_len,
                       uint8_t *signature, size_t signature_len);
-MLDSA_ANSWERS MLDSA_ARRAYS(4, 0) /* stack: MLDSA87_STACK_VERIFY */
+
+/** Tells whether the public key accepts the signature of the message under the context. Test for == MLDSA_YES and nothing else.
+ * If the context has more than 255 bytes, the result is MLDSA_NO.
+ * Needs MLDSA87_STACK_VERIFY bytes of stack.
+ * @return MLDSA_YES, MLDSA_WRONG_LENGTH, MLDSA_NO */
+MLDSA_ANSWERS MLDSA_ARRAYS(4, 0)
 uint32_t mldsa87_verify(const uint8_t *public_key, size_t public_key_len, const uint8_t *message, size_t message_len,
                         const uint8_t *context, size_t context_len, const uint8_t *signature, size_t signature_len);
-MLDSA_ANSWERS MLDSA_ARRAYS(4, 0) /* stack: MLDSA87_STACK_VERIFY */
+
+/** Tells the same as verify by 1 for yes and 0 for everything else, for languages in which 0 is false. Never compare the result
+ * with MLDSA_YES.
+ * Needs MLDSA87_STACK_VERIFY bytes of stack.
+ * @return 1 or 0 */
+MLDSA_ANSWERS MLDSA_ARRAYS(4, 0)
 uint32_t mldsa87_accepts(const uint8_t *public_key, size_t public_key_len, const uint8_t *message, size_t message_len,
                          const uint8_t *context, size_t context_len, const uint8_t *signature, size_t signature_len);
-MLDSA_ANSWERS MLDSA_ARRAYS(5, 1) /* stack: MLDSA87_STACK_SIGN */
+
+/** Signs the digest of a message that you hashed, under a context of at most 255 bytes (HashML-DSA). oid names the hash
+ * function, as MLDSA_OID_SHA2_512 with MLDSA_OID_LEN. If it is one of the twelve that FIPS 204 names, the digest must have its
+ * length; with another, at most 1024 bytes. random is that of sign.
+ * Needs MLDSA87_STACK_SIGN bytes of stack.
+ * @return MLDSA_DONE, MLDSA_WRONG_LENGTH, MLDSA_KEY_RANGE, MLDSA_HASH_CONTEXT_TOO_LONG, MLDSA_OID_EMPTY, MLDSA_OID_NOT_DER,
+ * MLDSA_DIGEST_TOO_LONG, MLDSA_DIGEST_LENGTH, MLDSA_SAMPLING_LIMIT, MLDSA_TOO_MANY_ATTEMPTS */
+MLDSA_ANSWERS MLDSA_ARRAYS(5, 1)
 uint32_t mldsa87_hash_sign(const uint8_t *private_key, size_t private_key_len,
                            const uint8_t *digest, size_t digest_len, const uint8_t *context, size_t context_len,
                            const uint8_t *oid, size_t oid_len, const uint8_t *random, size_t random_len,
                            uint8_t *signature, size_t signature_len);
-MLDSA_ANSWERS MLDSA_ARRAYS(5, 0) /* stack: MLDSA87_STACK_VERIFY */
+
+/** Tells whether the public key accepts the signature that hash_sign made of the digest. If hash_sign would not sign this
+ * digest with this oid, the result is MLDSA_NO.
+ * Needs MLDSA87_STACK_VERIFY bytes of stack.
+ * @return MLDSA_YES, MLDSA_WRONG_LENGTH, MLDSA_NO */
+MLDSA_ANSWERS MLDSA_ARRAYS(5, 0)
 uint32_t mldsa87_hash_verify(const uint8_t *public_key, size_t public_key_len,
                              const uint8_t *digest, size_t digest_len, const uint8_t *context, size_t context_len,
                              const uint8_t *oid, size_t oid_len, const uint8_t *signature, size_t signature_len);
-MLDSA_ANSWERS MLDSA_ARRAYS(3, 1) /* stack: MLDSA87_STACK_SIGN */
+
+/** Signs the message of which this is mu. mu has MLDSA_MU_LEN bytes: the first 64 bytes of SHAKE256 over tr, 00, the context's
+ * length as a byte, the context and the message, where tr are the first 64 bytes of SHAKE256 over the public key. The
+ * signature is the one that sign makes, if the private key keeps this tr. mldsa_mu_finish writes such a mu.
+ * Needs MLDSA87_STACK_SIGN bytes of stack.
+ * @return MLDSA_DONE, MLDSA_WRONG_LENGTH, MLDSA_KEY_RANGE, MLDSA_SAMPLING_LIMIT, MLDSA_TOO_MANY_ATTEMPTS */
+MLDSA_ANSWERS MLDSA_ARRAYS(3, 1)
 uint32_t mldsa87_sign_mu(const uint8_t *private_key, size_t private_key_len, const uint8_t *mu, size_t mu_len,
                          const uint8_t *random, size_t random_len, uint8_t *signature, size_t signature_len);
-MLDSA_ANSWERS MLDSA_ARRAYS(3, 0) /* stack: MLDSA87_STACK_VERIFY */
+
+/** Tells whether the public key accepts the signature of the message of which this is mu, as sign_mu has it.
+ * Needs MLDSA87_STACK_VERIFY bytes of stack.
+ * @return MLDSA_YES, MLDSA_WRONG_LENGTH, MLDSA_NO */
+MLDSA_ANSWERS MLDSA_ARRAYS(3, 0)
 uint32_t mldsa87_verify_mu(const uint8_t *public_key, size_t public_key_len, const uint8_t *mu, size_t mu_len,
                            const uint8_t *signature, size_t signature_len);
-MLDSA_ANSWERS MLDSA_ARRAYS(1, 1) /* stack: MLDSA87_STACK_PUBLIC_KEY */
+
+/** Writes the public key that belongs to a private key.
+ * Needs MLDSA87_STACK_PUBLIC_KEY bytes of stack.
+ * @return MLDSA_DONE, MLDSA_WRONG_LENGTH, MLDSA_KEY_RANGE, MLDSA_SAMPLING_LIMIT */
+MLDSA_ANSWERS MLDSA_ARRAYS(1, 1)
 uint32_t mldsa87_public_key(const uint8_t *private_key, size_t private_key_len,
                             uint8_t *public_key, size_t public_key_len);
-MLDSA_ANSWERS MLDSA_ARRAYS(1, 0) /* stack: MLDSA87_STACK_CHECK */
+
+/** Tells whether the bytes are a private key at all, which each call with a private key checks too. Ask is_pair whether its
+ * parts belong together.
+ * Needs MLDSA87_STACK_CHECK bytes of stack.
+ * @return MLDSA_DONE, MLDSA_WRONG_LENGTH, MLDSA_KEY_RANGE */
+MLDSA_ANSWERS MLDSA_ARRAYS(1, 0)
 uint32_t mldsa87_check_private_key(const uint8_t *private_key, size_t private_key_len);
-MLDSA_ANSWERS MLDSA_ARRAYS(1, 0) /* stack: MLDSA87_STACK_WHOLE */
+
+/** Tells whether the part t0 of a private key belongs to its parts s1 and s2, and ignores its hash tr. You want is_pair, unless
+ * you know why not.
+ * Needs MLDSA87_STACK_WHOLE bytes of stack.
+ * @return MLDSA_YES, MLDSA_WRONG_LENGTH, MLDSA_NO, MLDSA_KEY_RANGE, MLDSA_SAMPLING_LIMIT */
+MLDSA_ANSWERS MLDSA_ARRAYS(1, 0)
 uint32_t mldsa87_is_whole(const uint8_t *private_key, size_t private_key_len);
-MLDSA_ANSWERS MLDSA_ARRAYS(1, 0) /* stack: MLDSA87_STACK_PAIR */
+
+/** Tells whether the parts of a private key from elsewhere belong together. If so, whatever it signs is accepted under the
+ * public key that public_key writes; keygen makes no other keys. If not, its t0 or tr is not its own, and what it signs may be
+ * accepted or not.
+ * Needs MLDSA87_STACK_PAIR bytes of stack.
+ * @return MLDSA_YES, MLDSA_WRONG_LENGTH, MLDSA_NO, MLDSA_KEY_RANGE, MLDSA_SAMPLING_LIMIT */
+MLDSA_ANSWERS MLDSA_ARRAYS(1, 0)
 uint32_t mldsa87_is_pair(const uint8_t *private_key, size_t private_key_len);
-MLDSA_ANSWERS MLDSA_ARRAYS(2, 1) /* stack: MLDSA_STACK_MU */
+
+/** Begins a message in pieces, under a context of at most 255 bytes, for the public key that verifies it: writes a state of
+ * MLDSA_STATE_LEN bytes. Then mldsa_mu_update adds pieces, and mldsa_mu_finish writes mu.
+ * Needs MLDSA_STACK_MU bytes of stack.
+ * @return MLDSA_DONE, MLDSA_WRONG_LENGTH, MLDSA_CONTEXT_TOO_LONG */
+MLDSA_ANSWERS MLDSA_ARRAYS(2, 1)
 uint32_t mldsa87_mu_begin(const uint8_t *public_key, size_t public_key_len, const uint8_t *context, size_t context_len,
                           uint8_t *state, size_t state_len);
-MLDSA_ANSWERS MLDSA_ARRAYS(2, 1) /* stack: MLDSA_STACK_MU */
+
+/** Begins a message in pieces as mu_begin does, for the private key that signs it, with the hash tr that this keeps.
+ * Needs MLDSA_STACK_MU bytes of stack.
+ * @return MLDSA_DONE, MLDSA_WRONG_LENGTH, MLDSA_CONTEXT_TOO_LONG */
+MLDSA_ANSWERS MLDSA_ARRAYS(2, 1)
 uint32_t mldsa87_mu_begin_private(const uint8_t *private_key, size_t private_key_len,
                                   const uint8_t *context, size_t context_len, uint8_t *state, size_t state_len);
-MLDSA_ANSWERS MLDSA_ARRAYS(1, 1) /* stack: MLDSA87_STACK_PREPARE_PUBLIC_KEY */
+
+/** Writes a prepared public key: the bytes of the key, and behind them what each call would compute from them anew. Keep it
+ * where nobody can change it: a changed one may accept what nobody signed.
+ * Needs MLDSA87_STACK_PREPARE_PUBLIC_KEY bytes of stack.
+ * @return MLDSA_DONE, MLDSA_WRONG_LENGTH, MLDSA_SAMPLING_LIMIT */
+MLDSA_ANSWERS MLDSA_ARRAYS(1, 1)
 uint32_t mldsa87_prepare_public_key(const uint8_t *public_key, size_t public_key_len,
                                     uint8_t *prepared_public_key, size_t prepared_public_key_len);
-MLDSA_ANSWERS MLDSA_ARRAYS(1, 1) /* stack: MLDSA87_STACK_PREPARE_PRIVATE_KEY */
+
+/** Writes a prepared private key: the bytes of the key, and behind them what each call would compute from them anew. Keep it as
+ * secret as the private key, and where nobody can change it: what a changed one signs may tell the key.
+ * Needs MLDSA87_STACK_PREPARE_PRIVATE_KEY bytes of stack.
+ * @return MLDSA_DONE, MLDSA_WRONG_LENGTH, MLDSA_KEY_RANGE, MLDSA_SAMPLING_LIMIT */
+MLDSA_ANSWERS MLDSA_ARRAYS(1, 1)
 uint32_t mldsa87_prepare_private_key(const uint8_t *private_key, size_t private_key_len,
                                      uint8_t *prepared_private_key, size_t prepared_private_key_len);
-MLDSA_ANSWERS MLDSA_ARRAYS(4, 1) /* stack: MLDSA87_STACK_SIGN_PREPARED */
+
+/** Does what sign does with the key that was prepared, in less time. Any bytes are safe in a prepared key, but nothing
+ * checks that its parts belong together: MLDSA_NOT_PREPARED says that a value of its matrix is 8380417 or more, or that a
+ * coefficient of s1 or s2 is out of range. With the matrix or tr of another key, which no call writes, the signature means nothing.
+ * Needs MLDSA87_STACK_SIGN_PREPARED bytes of stack.
+ * @return MLDSA_DONE, MLDSA_WRONG_LENGTH, MLDSA_NOT_PREPARED, MLDSA_CONTEXT_TOO_LONG, MLDSA_SAMPLING_LIMIT,
+ * MLDSA_TOO_MANY_ATTEMPTS */
+MLDSA_ANSWERS MLDSA_ARRAYS(4, 1)
 uint32_t mldsa87_sign_prepared(const uint8_t *prepared_private_key, size_t prepared_private_key_len,
                                const uint8_t *message, size_t message_len, const uint8_t *context, size_t context_len,
                                const uint8_t *random, size_t random_len, uint8_t *signature, size_t signature_len);
-MLDSA_ANSWERS MLDSA_ARRAYS(4, 0) /* stack: MLDSA87_STACK_VERIFY_PREPARED */
+
+/** Does what verify does with the key that was prepared, in less time. Any bytes are safe in a prepared key, but nothing
+ * checks that its parts belong together: MLDSA_NOT_PREPARED says that a value of its matrix is 8380417 or more. With the
+ * matrix or tr of another key, which no call writes, the verdict means nothing.
+ * Needs MLDSA87_STACK_VERIFY_PREPARED bytes of stack.
+ * @return MLDSA_YES, MLDSA_WRONG_LENGTH, MLDSA_NO, MLDSA_NOT_PREPARED */
+MLDSA_ANSWERS MLDSA_ARRAYS(4, 0)
 uint32_t mldsa87_verify_prepared(const uint8_t *prepared_public_key, size_t prepared_public_key_len,
                                  const uint8_t *message, size_t message_len, const uint8_t *context, size_t context_len,
                                  const uint8_t *signature, size_t signature_len);
-MLDSA_ANSWERS MLDSA_ARRAYS(5, 1) /* stack: MLDSA87_STACK_SIGN_PREPARED */
+
+/** Does what hash_sign does with the key that was prepared.
+ * Needs MLDSA87_STACK_SIGN_PREPARED bytes of stack.
+ * @return MLDSA_DONE, MLDSA_WRONG_LENGTH, MLDSA_NOT_PREPARED, MLDSA_HASH_CONTEXT_TOO_LONG, MLDSA_OID_EMPTY, MLDSA_OID_NOT_DER,
+ * MLDSA_DIGEST_TOO_LONG, MLDSA_DIGEST_LENGTH, MLDSA_SAMPLING_LIMIT, MLDSA_TOO_MANY_ATTEMPTS */
+MLDSA_ANSWERS MLDSA_ARRAYS(5, 1)
 uint32_t mldsa87_hash_sign_prepared(const uint8_t *prepared_private_key, size_t prepared_private_key_len,
                                     const uint8_t *digest, size_t digest_len, const uint8_t *context, size_t context_len,
                                     const uint8_t *oid, size_t oid_len, const uint8_t *random, size_t random_len,
                                     uint8_t *signature, size_t signature_len);
-MLDSA_ANSWERS MLDSA_ARRAYS(5, 0) /* stack: MLDSA87_STACK_VERIFY_PREPARED */
+
+/** Does what hash_verify does with the key that was prepared.
+ * Needs MLDSA87_STACK_VERIFY_PREPARED bytes of stack.
+ * @return MLDSA_YES, MLDSA_WRONG_LENGTH, MLDSA_NO, MLDSA_NOT_PREPARED */
+MLDSA_ANSWERS MLDSA_ARRAYS(5, 0)
 uint32_t mldsa87_hash_verify_prepared(const uint8_t *prepared_public_key, size_t prepared_public_key_len,
                                       const uint8_t *digest, size_t digest_len, const uint8_t *context, size_t context_len,
                                       const uint8_t *oid, size_t oid_len, const uint8_t *signature, size_t signature_len);
-MLDSA_ANSWERS MLDSA_ARRAYS(3, 1) /* stack: MLDSA87_STACK_SIGN_PREPARED */
+
+/** Does what sign_mu does with the key that was prepared.
+ * Needs MLDSA87_STACK_SIGN_PREPARED bytes of stack.
+ * @return MLDSA_DONE, MLDSA_WRONG_LENGTH, MLDSA_NOT_PREPARED, MLDSA_SAMPLING_LIMIT, MLDSA_TOO_MANY_ATTEMPTS */
+MLDSA_ANSWERS MLDSA_ARRAYS(3, 1)
 uint32_t mldsa87_sign_mu_prepared(const uint8_t *prepared_private_key, size_t prepared_private_key_len,
                                   const uint8_t *mu, size_t mu_len, const uint8_t *random, size_t random_len,
                                   uint8_t *signature, size_t signature_len);
-MLDSA_ANSWERS MLDSA_ARRAYS(3, 0) /* stack: MLDSA87_STACK_VERIFY_PREPARED */
+
+/** Does what verify_mu does with the key that was prepared.
+ * Needs MLDSA87_STACK_VERIFY_PREPARED bytes of stack.
+ * @return MLDSA_YES, MLDSA_WRONG_LENGTH, MLDSA_NO, MLDSA_NOT_PREPARED */
+MLDSA_ANSWERS MLDSA_ARRAYS(3, 0)
 uint32_t mldsa87_verify_mu_prepared(const uint8_t *prepared_public_key, size_t prepared_public_key_len,
                                     const uint8_t *mu, size_t mu_len, const uint8_t *signature, size_t signature_len);
 
@@ -537,90 +808,213 @@ uint32_t mldsa87_verify_mu_prepared(const uint8_t *prepared_public_key, size_t p
 #define MLDSA87_BOTH_DER_LEN 4962
 #define MLDSA87_STACK_DER 149504
 
-MLDSA_ANSWERS MLDSA_ARRAYS(1, 1) /* stack: MLDSA44_STACK_DER */
+/** Writes a public key as files have it: the DER of a SubjectPublicKeyInfo (RFC 9881, section 4), of MLDSA44_PUBLIC_KEY_DER_LEN
+ * bytes.
+ * Needs MLDSA44_STACK_DER bytes of stack.
+ * @return MLDSA_DONE or MLDSA_WRONG_LENGTH */
+MLDSA_ANSWERS MLDSA_ARRAYS(1, 1)
 uint32_t mldsa44_public_key_to_der(const uint8_t *public_key, size_t public_key_len,
                                    uint8_t *public_key_der, size_t public_key_der_len);
-MLDSA_ANSWERS MLDSA_ARRAYS(1, 1) /* stack: MLDSA44_STACK_DER */
+
+/** Reads a public key of a file of any length. DER has one form; every other file is reported by its first fault.
+ * Needs MLDSA44_STACK_DER bytes of stack.
+ * @return MLDSA_DONE, MLDSA_WRONG_LENGTH, MLDSA_DER_CUT_SHORT, MLDSA_DER_TRAILING, MLDSA_DER_DAMAGED, MLDSA_DER_ALGORITHM,
+ * MLDSA_DER_KEY_LENGTH, MLDSA_OTHER_SET */
+MLDSA_ANSWERS MLDSA_ARRAYS(1, 1)
 uint32_t mldsa44_public_key_from_der(const uint8_t *public_key_der, size_t public_key_der_len,
                                      uint8_t *public_key, size_t public_key_len);
-MLDSA_ANSWERS MLDSA_ARRAYS(1, 1) /* stack: MLDSA44_STACK_DER */
+
+/** Writes a private key as files have it, not encrypted: the DER of a OneAsymmetricKey of version 0 (RFC 9881, section 6; also
+ * called PKCS #8) with the seed, of MLDSA_SEED_DER_LEN bytes.
+ * Needs MLDSA44_STACK_DER bytes of stack.
+ * @return MLDSA_DONE or MLDSA_WRONG_LENGTH */
+MLDSA_ANSWERS MLDSA_ARRAYS(1, 1)
 uint32_t mldsa44_seed_to_der(const uint8_t *seed, size_t seed_len, uint8_t *seed_der, size_t seed_der_len);
-MLDSA_ANSWERS MLDSA_ARRAYS(1, 1) /* stack: MLDSA44_STACK_DER */
+
+/** Writes such a file with the expanded key, of MLDSA44_PRIVATE_KEY_DER_LEN bytes. The key has to be one to which is_pair says
+ * yes.
+ * Needs MLDSA44_STACK_DER bytes of stack.
+ * @return MLDSA_DONE, MLDSA_WRONG_LENGTH, MLDSA_INCONSISTENT, MLDSA_SAMPLING_LIMIT */
+MLDSA_ANSWERS MLDSA_ARRAYS(1, 1)
 uint32_t mldsa44_private_key_to_der(const uint8_t *private_key, size_t private_key_len,
                                     uint8_t *private_key_der, size_t private_key_der_len);
-MLDSA_ANSWERS MLDSA_ARRAYS(1, 1) /* stack: MLDSA44_STACK_DER */
+
+/** Writes such a file with the seed and the expanded key that it generates, of MLDSA44_BOTH_DER_LEN bytes.
+ * Needs MLDSA44_STACK_DER bytes of stack.
+ * @return MLDSA_DONE, MLDSA_WRONG_LENGTH, MLDSA_SAMPLING_LIMIT */
+MLDSA_ANSWERS MLDSA_ARRAYS(1, 1)
 uint32_t mldsa44_both_to_der(const uint8_t *seed, size_t seed_len, uint8_t *both_der, size_t both_der_len);
-MLDSA_ANSWERS MLDSA_ARRAYS(1, 1) /* stack: MLDSA44_STACK_DER */
+
+/** Reads the expanded private key of a file of any length, in any of the three forms. It rejects an expanded key that the seed
+ * beside it does not generate, and one that stands alone and to which is_pair does not say yes. To load a key, ask
+ * seed_from_der first, and this if the result is MLDSA_NO_SEED. If you don't know the set, ask at each as long as the result
+ * is MLDSA_OTHER_SET.
+ * Needs MLDSA44_STACK_DER bytes of stack.
+ * @return MLDSA_DONE, MLDSA_WRONG_LENGTH, MLDSA_DER_CUT_SHORT, MLDSA_DER_TRAILING, MLDSA_DER_DAMAGED, MLDSA_DER_VERSION,
+ * MLDSA_DER_ALGORITHM, MLDSA_DER_KEY_LENGTH, MLDSA_OTHER_SET, MLDSA_INCONSISTENT, MLDSA_SAMPLING_LIMIT */
+MLDSA_ANSWERS MLDSA_ARRAYS(1, 1)
 uint32_t mldsa44_private_key_from_der(const uint8_t *private_key_der, size_t private_key_der_len,
                                       uint8_t *private_key, size_t private_key_len);
-MLDSA_ANSWERS MLDSA_ARRAYS(1, 1) /* stack: MLDSA44_STACK_DER */
+
+/** Reads the seed of a private key's file of any length. It rejects an expanded key that the seed beside it does not generate,
+ * and does not look at one that stands alone.
+ * Needs MLDSA44_STACK_DER bytes of stack.
+ * @return MLDSA_DONE, MLDSA_WRONG_LENGTH, MLDSA_NO_SEED, MLDSA_DER_CUT_SHORT, MLDSA_DER_TRAILING, MLDSA_DER_DAMAGED,
+ * MLDSA_DER_VERSION, MLDSA_DER_ALGORITHM, MLDSA_DER_KEY_LENGTH, MLDSA_OTHER_SET, MLDSA_INCONSISTENT, MLDSA_SAMPLING_LIMIT */
+MLDSA_ANSWERS MLDSA_ARRAYS(1, 1)
 uint32_t mldsa44_seed_from_der(const uint8_t *seed_der, size_t seed_der_len, uint8_t *seed, size_t seed_len);
 
-MLDSA_ANSWERS MLDSA_ARRAYS(1, 1) /* stack: MLDSA65_STACK_DER */
+/** Writes a public key as files have it: the DER of a SubjectPublicKeyInfo (RFC 9881, section 4), of MLDSA65_PUBLIC_KEY_DER_LEN
+ * bytes.
+ * Needs MLDSA65_STACK_DER bytes of stack.
+ * @return MLDSA_DONE or MLDSA_WRONG_LENGTH */
+MLDSA_ANSWERS MLDSA_ARRAYS(1, 1)
 uint32_t mldsa65_public_key_to_der(const uint8_t *public_key, size_t public_key_len,
                                    uint8_t *public_key_der, size_t public_key_der_len);
-MLDSA_ANSWERS MLDSA_ARRAYS(1, 1) /* stack: MLDSA65_STACK_DER */
+
+/** Reads a public key of a file of any length. DER has one form; every other file is reported by its first fault.
+ * Needs MLDSA65_STACK_DER bytes of stack.
+ * @return MLDSA_DONE, MLDSA_WRONG_LENGTH, MLDSA_DER_CUT_SHORT, MLDSA_DER_TRAILING, MLDSA_DER_DAMAGED, MLDSA_DER_ALGORITHM,
+ * MLDSA_DER_KEY_LENGTH, MLDSA_OTHER_SET */
+MLDSA_ANSWERS MLDSA_ARRAYS(1, 1)
 uint32_t mldsa65_public_key_from_der(const uint8_t *public_key_der, size_t public_key_der_len,
                                      uint8_t *public_key, size_t public_key_len);
-MLDSA_ANSWERS MLDSA_ARRAYS(1, 1) /* stack: MLDSA65_STACK_DER */
+
+/** Writes a private key as files have it, not encrypted: the DER of a OneAsymmetricKey of version 0 (RFC 9881, section 6; also
+ * called PKCS #8) with the seed, of MLDSA_SEED_DER_LEN bytes.
+ * Needs MLDSA65_STACK_DER bytes of stack.
+ * @return MLDSA_DONE or MLDSA_WRONG_LENGTH */
+MLDSA_ANSWERS MLDSA_ARRAYS(1, 1)
 uint32_t mldsa65_seed_to_der(const uint8_t *seed, size_t seed_len, uint8_t *seed_der, size_t seed_der_len);
-MLDSA_ANSWERS MLDSA_ARRAYS(1, 1) /* stack: MLDSA65_STACK_DER */
+
+/** Writes such a file with the expanded key, of MLDSA65_PRIVATE_KEY_DER_LEN bytes. The key has to be one to which is_pair says
+ * yes.
+ * Needs MLDSA65_STACK_DER bytes of stack.
+ * @return MLDSA_DONE, MLDSA_WRONG_LENGTH, MLDSA_INCONSISTENT, MLDSA_SAMPLING_LIMIT */
+MLDSA_ANSWERS MLDSA_ARRAYS(1, 1)
 uint32_t mldsa65_private_key_to_der(const uint8_t *private_key, size_t private_key_len,
                                     uint8_t *private_key_der, size_t private_key_der_len);
-MLDSA_ANSWERS MLDSA_ARRAYS(1, 1) /* stack: MLDSA65_STACK_DER */
+
+/** Writes such a file with the seed and the expanded key that it generates, of MLDSA65_BOTH_DER_LEN bytes.
+ * Needs MLDSA65_STACK_DER bytes of stack.
+ * @return MLDSA_DONE, MLDSA_WRONG_LENGTH, MLDSA_SAMPLING_LIMIT */
+MLDSA_ANSWERS MLDSA_ARRAYS(1, 1)
 uint32_t mldsa65_both_to_der(const uint8_t *seed, size_t seed_len, uint8_t *both_der, size_t both_der_len);
-MLDSA_ANSWERS MLDSA_ARRAYS(1, 1) /* stack: MLDSA65_STACK_DER */
+
+/** Reads the expanded private key of a file of any length, in any of the three forms. It rejects an expanded key that the seed
+ * beside it does not generate, and one that stands alone and to which is_pair does not say yes. To load a key, ask
+ * seed_from_der first, and this if the result is MLDSA_NO_SEED. If you don't know the set, ask at each as long as the result
+ * is MLDSA_OTHER_SET.
+ * Needs MLDSA65_STACK_DER bytes of stack.
+ * @return MLDSA_DONE, MLDSA_WRONG_LENGTH, MLDSA_DER_CUT_SHORT, MLDSA_DER_TRAILING, MLDSA_DER_DAMAGED, MLDSA_DER_VERSION,
+ * MLDSA_DER_ALGORITHM, MLDSA_DER_KEY_LENGTH, MLDSA_OTHER_SET, MLDSA_INCONSISTENT, MLDSA_SAMPLING_LIMIT */
+MLDSA_ANSWERS MLDSA_ARRAYS(1, 1)
 uint32_t mldsa65_private_key_from_der(const uint8_t *private_key_der, size_t private_key_der_len,
                                       uint8_t *private_key, size_t private_key_len);
-MLDSA_ANSWERS MLDSA_ARRAYS(1, 1) /* stack: MLDSA65_STACK_DER */
+
+/** Reads the seed of a private key's file of any length. It rejects an expanded key that the seed beside it does not generate,
+ * and does not look at one that stands alone.
+ * Needs MLDSA65_STACK_DER bytes of stack.
+ * @return MLDSA_DONE, MLDSA_WRONG_LENGTH, MLDSA_NO_SEED, MLDSA_DER_CUT_SHORT, MLDSA_DER_TRAILING, MLDSA_DER_DAMAGED,
+ * MLDSA_DER_VERSION, MLDSA_DER_ALGORITHM, MLDSA_DER_KEY_LENGTH, MLDSA_OTHER_SET, MLDSA_INCONSISTENT, MLDSA_SAMPLING_LIMIT */
+MLDSA_ANSWERS MLDSA_ARRAYS(1, 1)
 uint32_t mldsa65_seed_from_der(const uint8_t *seed_der, size_t seed_der_len, uint8_t *seed, size_t seed_len);
 
-MLDSA_ANSWERS MLDSA_ARRAYS(1, 1) /* stack: MLDSA87_STACK_DER */
+/** Writes a public key as files have it: the DER of a SubjectPublicKeyInfo (RFC 9881, section 4), of MLDSA87_PUBLIC_KEY_DER_LEN
+ * bytes.
+ * Needs MLDSA87_STACK_DER bytes of stack.
+ * @return MLDSA_DONE or MLDSA_WRONG_LENGTH */
+MLDSA_ANSWERS MLDSA_ARRAYS(1, 1)
 uint32_t mldsa87_public_key_to_der(const uint8_t *public_key, size_t public_key_len,
                                    uint8_t *public_key_der, size_t public_key_der_len);
-MLDSA_ANSWERS MLDSA_ARRAYS(1, 1) /* stack: MLDSA87_STACK_DER */
+
+/** Reads a public key of a file of any length. DER has one form; every other file is reported by its first fault.
+ * Needs MLDSA87_STACK_DER bytes of stack.
+ * @return MLDSA_DONE, MLDSA_WRONG_LENGTH, MLDSA_DER_CUT_SHORT, MLDSA_DER_TRAILING, MLDSA_DER_DAMAGED, MLDSA_DER_ALGORITHM,
+ * MLDSA_DER_KEY_LENGTH, MLDSA_OTHER_SET */
+MLDSA_ANSWERS MLDSA_ARRAYS(1, 1)
 uint32_t mldsa87_public_key_from_der(const uint8_t *public_key_der, size_t public_key_der_len,
                                      uint8_t *public_key, size_t public_key_len);
-MLDSA_ANSWERS MLDSA_ARRAYS(1, 1) /* stack: MLDSA87_STACK_DER */
+
+/** Writes a private key as files have it, not encrypted: the DER of a OneAsymmetricKey of version 0 (RFC 9881, section 6; also
+ * called PKCS #8) with the seed, of MLDSA_SEED_DER_LEN bytes.
+ * Needs MLDSA87_STACK_DER bytes of stack.
+ * @return MLDSA_DONE or MLDSA_WRONG_LENGTH */
+MLDSA_ANSWERS MLDSA_ARRAYS(1, 1)
 uint32_t mldsa87_seed_to_der(const uint8_t *seed, size_t seed_len, uint8_t *seed_der, size_t seed_der_len);
-MLDSA_ANSWERS MLDSA_ARRAYS(1, 1) /* stack: MLDSA87_STACK_DER */
+
+/** Writes such a file with the expanded key, of MLDSA87_PRIVATE_KEY_DER_LEN bytes. The key has to be one to which is_pair says
+ * yes.
+ * Needs MLDSA87_STACK_DER bytes of stack.
+ * @return MLDSA_DONE, MLDSA_WRONG_LENGTH, MLDSA_INCONSISTENT, MLDSA_SAMPLING_LIMIT */
+MLDSA_ANSWERS MLDSA_ARRAYS(1, 1)
 uint32_t mldsa87_private_key_to_der(const uint8_t *private_key, size_t private_key_len,
                                     uint8_t *private_key_der, size_t private_key_der_len);
-MLDSA_ANSWERS MLDSA_ARRAYS(1, 1) /* stack: MLDSA87_STACK_DER */
+
+/** Writes such a file with the seed and the expanded key that it generates, of MLDSA87_BOTH_DER_LEN bytes.
+ * Needs MLDSA87_STACK_DER bytes of stack.
+ * @return MLDSA_DONE, MLDSA_WRONG_LENGTH, MLDSA_SAMPLING_LIMIT */
+MLDSA_ANSWERS MLDSA_ARRAYS(1, 1)
 uint32_t mldsa87_both_to_der(const uint8_t *seed, size_t seed_len, uint8_t *both_der, size_t both_der_len);
-MLDSA_ANSWERS MLDSA_ARRAYS(1, 1) /* stack: MLDSA87_STACK_DER */
+
+/** Reads the expanded private key of a file of any length, in any of the three forms. It rejects an expanded key that the seed
+ * beside it does not generate, and one that stands alone and to which is_pair does not say yes. To load a key, ask
+ * seed_from_der first, and this if the result is MLDSA_NO_SEED. If you don't know the set, ask at each as long as the result
+ * is MLDSA_OTHER_SET.
+ * Needs MLDSA87_STACK_DER bytes of stack.
+ * @return MLDSA_DONE, MLDSA_WRONG_LENGTH, MLDSA_DER_CUT_SHORT, MLDSA_DER_TRAILING, MLDSA_DER_DAMAGED, MLDSA_DER_VERSION,
+ * MLDSA_DER_ALGORITHM, MLDSA_DER_KEY_LENGTH, MLDSA_OTHER_SET, MLDSA_INCONSISTENT, MLDSA_SAMPLING_LIMIT */
+MLDSA_ANSWERS MLDSA_ARRAYS(1, 1)
 uint32_t mldsa87_private_key_from_der(const uint8_t *private_key_der, size_t private_key_der_len,
                                       uint8_t *private_key, size_t private_key_len);
-MLDSA_ANSWERS MLDSA_ARRAYS(1, 1) /* stack: MLDSA87_STACK_DER */
+
+/** Reads the seed of a private key's file of any length. It rejects an expanded key that the seed beside it does not generate,
+ * and does not look at one that stands alone.
+ * Needs MLDSA87_STACK_DER bytes of stack.
+ * @return MLDSA_DONE, MLDSA_WRONG_LENGTH, MLDSA_NO_SEED, MLDSA_DER_CUT_SHORT, MLDSA_DER_TRAILING, MLDSA_DER_DAMAGED,
+ * MLDSA_DER_VERSION, MLDSA_DER_ALGORITHM, MLDSA_DER_KEY_LENGTH, MLDSA_OTHER_SET, MLDSA_INCONSISTENT, MLDSA_SAMPLING_LIMIT */
+MLDSA_ANSWERS MLDSA_ARRAYS(1, 1)
 uint32_t mldsa87_seed_from_der(const uint8_t *seed_der, size_t seed_der_len, uint8_t *seed, size_t seed_len);
 
-/* The same for every set.
- *
- * Pieces of a message: mldsa_mu_update adds one to the message of a state that mu_begin or mu_begin_private wrote, and
- * mldsa_mu_finish writes mu of it, of MLDSA_MU_LEN bytes; the state stays as it is, so that more can be added. A state is no
- * secret beyond its message, and may be copied. Any bytes are safe in it. MLDSA_BROKEN_STATE is the result where its last byte is
- * 0, as in the zeros that a forgotten mu_begin leaves, or above 136, which no call writes; any other array gives mu of something. */
+/* The same for every set. */
+
 #define MLDSA_STACK_MU 3328
+
+/** Adds a piece to the message of a state that mu_begin or mu_begin_private wrote. A state is no secret beyond its message, and
+ * you may copy it. Any bytes are safe in it: if its last byte is 0, as in the zeros that a forgotten mu_begin leaves, or above 136,
+ * which no call writes, the result is MLDSA_BROKEN_STATE; any other array gives mu of something.
+ * Needs MLDSA_STACK_MU bytes of stack.
+ * @return MLDSA_DONE, MLDSA_WRONG_LENGTH, MLDSA_BROKEN_STATE */
 MLDSA_ANSWERS MLDSA_ARRAYS(1, 0) MLDSA_ARRAY(read_write, 3, 4)
 uint32_t mldsa_mu_update(const uint8_t *piece, size_t piece_len, uint8_t *state, size_t state_len);
+
+/** Writes mu of the message of a state, of MLDSA_MU_LEN bytes. The state stays as it is, so that you can add more.
+ * Needs MLDSA_STACK_MU bytes of stack.
+ * @return MLDSA_DONE, MLDSA_WRONG_LENGTH, MLDSA_BROKEN_STATE */
 MLDSA_ANSWERS MLDSA_ARRAYS(1, 1)
 uint32_t mldsa_mu_finish(const uint8_t *state, size_t state_len, uint8_t *mu, size_t mu_len);
 
-/* The version of the library. */
+/** The version of the library: 65536 * major + 256 * minor + patch. */
 MLDSA_ANSWERS
 uint32_t mldsa_version(void);
 
-/* Whether a digest and the object identifier of its hash function can be signed: MLDSA_DONE, or
- * what hash_sign would return of them. Takes next to no time, so ask before you draw random bytes.
- * [MLDSA_OID_EMPTY, MLDSA_OID_NOT_DER, MLDSA_DIGEST_TOO_LONG, MLDSA_DIGEST_LENGTH] */
+/** Tells whether hash_sign can sign a digest with the object identifier of its hash function. It takes next to no time, so ask
+ * before you draw random bytes.
+ * Needs MLDSA_STACK_MU bytes of stack.
+ * @return MLDSA_DONE, MLDSA_OID_EMPTY, MLDSA_OID_NOT_DER, MLDSA_DIGEST_TOO_LONG, MLDSA_DIGEST_LENGTH */
 MLDSA_ANSWERS MLDSA_ARRAYS(2, 0)
 uint32_t mldsa_check_pre_hash(const uint8_t *digest, size_t digest_len, const uint8_t *oid, size_t oid_len);
 
-/* The text of a result, or of another number. mldsa_text_of writes the same into an array of MLDSA_TEXT_LEN bytes, with zeros
- * behind it, for languages that load the library and read no header. [mldsa_text_of: MLDSA_WRONG_LENGTH] */
 #define MLDSA_TEXT_LEN 64
+
+/** Writes the text that mldsa_text has of a result into an array of MLDSA_TEXT_LEN bytes, with zeros behind it, for languages that
+ * load the library and read no header.
+ * Needs MLDSA_STACK_MU bytes of stack.
+ * @return MLDSA_DONE or MLDSA_WRONG_LENGTH */
 MLDSA_ANSWERS MLDSA_ARRAY(write_only, 2, 3)
 uint32_t mldsa_text_of(uint32_t status, uint8_t *text, size_t text_len);
+
+/** The text of a result, or of another number. */
 static inline const char *mldsa_text(uint32_t status)
 {
     switch (status) {

@@ -17,7 +17,7 @@ static int draw(uint8_t *out, size_t length)
     return got == length;
 }
 
-/* The bytes of a file, or NULL where not all of them can be read. */
+/* The bytes of a file, or NULL if not all of them can be read. */
 static uint8_t *read_file(const char *name, size_t *length)
 {
     FILE *file = fopen(name, "rb");

@@ -1,22 +1,25 @@
 /**
- * An error of the library. `message` begins with the text of the status, as `mldsa_text` of c/mldsa.h gives it; where
- * that is about an array, its name follows, its length, and the one that is wanted.
+ * An error of the library. `message` begins with the text of the status, as `mldsa_text` of c/mldsa.h gives it. If the
+ * error is about an array, its name, its length and the right length follow.
  */
 export class MlDsaError extends Error {
     readonly name: "MlDsaError";
     /**
-     * The numbers of C's calls. Of any array: 2, a wrong length. Of signing: 4 and 6, the context of a message or digest
-     * is too long; 7 and 8, `oid` is empty or no DER; 9 and 10, the digest is too long or not as long as its function's;
-     * 13, all attempts were rejected; 15, rejection sampling reached its limit. Of a `MessageHasher`: 16, an earlier call
-     * threw. Of a private key: 14, out of range; 25,
-     * not consistent; 26, without a seed. Of DER: 18, cut short; 19, followed by more; 20, damaged; 21, of another
-     * version; 22, of another algorithm; 23, of a wrong length; 24, of another parameter set.
+     * The numbers that the calls in C return:
+     * - any array: 2, it has a wrong length
+     * - signing: 4 and 6, the context of a message or digest is too long; 7 and 8, `oid` is empty or no DER; 9 and 10,
+     *   the digest is too long or not as long as its function's; 13, all attempts were rejected; 15, rejection sampling
+     *   reached its limit
+     * - `MessageHasher`: 16, an earlier call threw
+     * - private key: 14, out of range; 25, not consistent; 26, without a seed
+     * - DER: 18, cut short; 19, followed by more; 20, damaged; 21, of another version; 22, of another algorithm; 23, of a
+     *   wrong length; 24, of another parameter set
      */
     readonly status: number;
 }
 
 /**
- * Whether this engine can run the library: whether its WebAssembly has what the module needs.
+ * Tells whether this engine can run the library, that is whether its WebAssembly has what the module needs.
  * @example
  * isSupported(); // true
  */
@@ -52,12 +55,12 @@ export interface Random {
 
 /**
  * A message that is hashed in pieces. Both calls throw a `TypeError` for other arguments, which changes nothing, and a
- * `RangeError` where the module's memory can't grow. After that, or any other error, each call throws an `MlDsaError`
- * with status 16, since a part of the piece may be hashed: begin again.
+ * `RangeError` if the module's memory can't grow. After that, or any other error, each call throws an `MlDsaError` with
+ * status 16, because a part of the piece may be hashed already: begin again.
  */
 export interface MessageHasher {
     /**
-     * Adds the next piece, of any length, and gives the hasher itself. Small ones are copied, and hashed together.
+     * Adds the next piece, of any length, and returns the hasher itself. Small pieces are copied, and hashed together.
      * @example
      * mlDsa65.messageHasher(publicKey).update(message).update(message);
      */
@@ -71,14 +74,14 @@ export interface MessageHasher {
 }
 
 /**
- * A parameter set of FIPS 204. Calls are synchronous, and wipe the module's memory when they end; the arrays that you
- * pass and those that you get are yours to wipe. There are no prepared keys.
+ * A parameter set of FIPS 204. Calls are synchronous, and wipe the module's memory when they end. You wipe the arrays
+ * that you pass and those that you get. There are no prepared keys.
  *
  * Each call throws a `TypeError` for an argument that is no `Uint8Array`, for options that are no plain object or have
  * another name, and for too many arguments; an `MlDsaError` with status 2 for an array of a wrong length, but not for a
  * signature to be verified; and a `RangeError` for arrays that do not fit into the module's memory. Other errors stand
- * at the calls. Status 13 (all 814 attempts were rejected) is that of a damaged private key; for 15 (sampling limit
- * reached) no input is known.
+ * at the calls. Status 13 (all 814 attempts were rejected) comes with a damaged private key; nobody knows an input that
+ * gives 15 (sampling limit reached).
  */
 export interface MlDsa {
     /** `ML-DSA-44`, `ML-DSA-65` or `ML-DSA-87`. */
@@ -89,11 +92,11 @@ export interface MlDsa {
      * Makes the key pair of a seed of 32 bytes, or of one that `crypto.getRandomValues` draws (Algorithm 1).
      * @example
      * const { publicKey, privateKey } = mlDsa65.keygen();
-     * @throws `MlDsaError` 15; `Error` without a seed where the engine has no `crypto.getRandomValues`.
+     * @throws `MlDsaError` 15; `Error` if you pass no seed and the engine has no `crypto.getRandomValues`.
      */
     keygen(seed?: Uint8Array): KeyPair;
     /**
-     * The public key that belongs to a private one.
+     * Computes the public key that belongs to a private one.
      * @example
      * mlDsa65.publicKey(privateKey); // publicKey
      * @throws `MlDsaError` 14 if the bytes are no private key, or 15.
@@ -104,29 +107,29 @@ export interface MlDsa {
      * @example
      * const signature = mlDsa65.sign(privateKey, message, { context });
      * @throws `MlDsaError` 4 if the context has more than 255 bytes, 14 if the bytes are no private key, 13 or 15;
-     * `Error` without `random`, as of `keygen` without a seed.
+     * `Error` without `random`, as with `keygen` without a seed.
      */
     sign(privateKey: Uint8Array, message: Uint8Array, options?: Context & Random): Uint8Array;
     /**
-     * Whether the public key accepts the signature of the message under the context (Algorithm 3): false too for a
-     * signature of another length, and for a context above 255 bytes.
+     * Tells whether the public key accepts the signature of the message under the context (Algorithm 3). It is also
+     * false for a signature of another length, and for a context above 255 bytes.
      * @example
      * mlDsa65.verify(publicKey, message, signature, { context }); // true
      */
     verify(publicKey: Uint8Array, message: Uint8Array, signature: Uint8Array, options?: Context): boolean;
     /**
-     * Signs the digest of a message (HashML-DSA, Algorithm 4) by the hash function with the object identifier `oid`. Of
-     * the functions in `oids` a digest has its length, 32 bytes for SHAKE128 and 64 for SHAKE256; of others at most
-     * 1,024 bytes.
+     * Signs the digest of a message (HashML-DSA, Algorithm 4) that the hash function with the object identifier `oid`
+     * made. If the function is one of `oids`, the digest has its length (SHAKE128: 32 bytes, SHAKE256: 64); otherwise it
+     * has at most 1,024 bytes.
      * @example
      * const signature = mlDsa65.hashSign(privateKey, digest, oids["SHA-384"], { context });
      * @throws `MlDsaError` 6 if the context has more than 255 bytes, 7 or 8 if `oid` is empty or not DER, 9 or 10 if
-     * the digest is too long or has another length, 14 if the bytes are no private key, 13 or 15; `Error` as of `sign`.
+     * the digest is too long or has another length, 14 if the bytes are no private key, 13 or 15; `Error` as with `sign`.
      */
     hashSign(privateKey: Uint8Array, digest: Uint8Array, oid: Uint8Array, options?: Context & Random): Uint8Array;
     /**
-     * Whether the public key accepts the signature of the digest under the context (Algorithm 5): false too where
-     * `hashSign` would throw for the digest, `oid` or the context.
+     * Tells whether the public key accepts the signature of the digest under the context (Algorithm 5). It is also false
+     * if `hashSign` would throw for the digest, `oid` or the context.
      * @example
      * const own = mlDsa65.hashSign(privateKey, digest, oids["SHA-384"]);
      * mlDsa65.hashVerify(publicKey, digest, oids["SHA-384"], own); // true
@@ -143,97 +146,99 @@ export interface MlDsa {
      */
     messageHasher(publicKey: Uint8Array, options?: Context): MessageHasher;
     /**
-     * Begins a message in pieces, whose `mu` is for `signMu`, by the hash `tr` that the private key keeps.
+     * Begins a message in pieces, whose `mu` is for `signMu`, with the hash `tr` that the private key keeps.
      * @example
      * const mu = mlDsa65.messageHasherOfPrivate(privateKey, { context }).update(message).mu();
      * @throws `MlDsaError` 4 if the context has more than 255 bytes.
      */
     messageHasherOfPrivate(privateKey: Uint8Array, options?: Context): MessageHasher;
     /**
-     * Signs the message with this `mu` of 64 bytes (FIPS 204, Algorithm 7, line 6), which a `MessageHasher` gives.
+     * Signs the message that has this `mu` of 64 bytes (FIPS 204, Algorithm 7, line 6), which a `MessageHasher` makes.
      * @example
      * const signature = mlDsa65.signMu(privateKey, mlDsa65.messageHasherOfPrivate(privateKey).update(message).mu());
-     * @throws `MlDsaError` 14 if the bytes are no private key, 13 or 15; `Error` as of `sign`.
+     * @throws `MlDsaError` 14 if the bytes are no private key, 13 or 15; `Error` as with `sign`.
      */
     signMu(privateKey: Uint8Array, mu: Uint8Array, options?: Random): Uint8Array;
     /**
-     * Whether the public key accepts the signature of the message with this `mu`.
+     * Tells whether the public key accepts the signature of the message that has this `mu`.
      * @example
      * mlDsa65.verifyMu(publicKey, mlDsa65.messageHasher(publicKey).mu(), signature); // false
      */
     verifyMu(publicKey: Uint8Array, mu: Uint8Array, signature: Uint8Array): boolean;
     /**
-     * Throws unless the bytes are a private key, as each call with a private key does but `messageHasherOfPrivate`.
+     * Throws unless the bytes are a private key. Each call with a private key checks this too, but for
+     * `messageHasherOfPrivate`.
      * @example
      * mlDsa65.checkPrivateKey(privateKey);
      * @throws `MlDsaError` 14.
      */
     checkPrivateKey(privateKey: Uint8Array): void;
     /**
-     * Whether a private key from elsewhere is consistent: whether what it signs is accepted under what `publicKey`
-     * gives.
+     * Tells whether a private key from elsewhere is consistent: if so, what it signs is accepted under the key that
+     * `publicKey` returns.
      * @example
      * mlDsa65.isPair(privateKey); // true
      * @throws `MlDsaError` 14 if the bytes are no private key, or 15.
      */
     isPair(privateKey: Uint8Array): boolean;
     /**
-     * The same without a look at its hash `tr`: whether its part t0 belongs to its parts s1 and s2.
+     * Tells whether the part t0 of a private key belongs to its parts s1 and s2, and ignores its hash `tr`. You want
+     * `isPair`, unless you know why not.
      * @example
      * mlDsa65.isWhole(privateKey); // true
-     * @throws `MlDsaError` as of `isPair`.
+     * @throws `MlDsaError` as with `isPair`.
      */
     isWhole(privateKey: Uint8Array): boolean;
     /**
-     * The DER of a public key (RFC 9881), as files have it; `mldsa/keys` puts PEM around it.
+     * Writes a public key in DER (RFC 9881), as files have it; `mldsa/keys` puts PEM around it.
      * @example
      * mlDsa65.publicKeyToDer(publicKey).length; // 1974
      */
     publicKeyToDer(publicKey: Uint8Array): Uint8Array;
     /**
-     * The public key of its DER.
+     * Reads a public key in DER.
      * @example
      * mlDsa65.publicKeyFromDer(mlDsa65.publicKeyToDer(publicKey)).length; // 1952
      * @throws `MlDsaError` 18 to 20, 22 or 23 for other bytes, 24 for a key of another set.
      */
     publicKeyFromDer(der: Uint8Array): Uint8Array;
     /**
-     * The DER of a private key by its seed, which is all that has to be stored.
+     * Writes a private key in DER, as its seed. That is all you have to store.
      * @example
      * mlDsa65.seedToDer(new Uint8Array(32).fill(7)).length; // 54
      */
     seedToDer(seed: Uint8Array): Uint8Array;
     /**
-     * The DER of a private key by its expanded key.
+     * Writes a private key in DER, as its expanded key.
      * @example
      * mlDsa65.privateKeyToDer(privateKey).length; // 4060
-     * @throws `MlDsaError` 25 for one of which `isPair` is false, 15.
+     * @throws `MlDsaError` 25 if `isPair` is false for it, or 15.
      */
     privateKeyToDer(privateKey: Uint8Array): Uint8Array;
     /**
-     * The DER of a private key by its seed and the expanded key that it generates.
+     * Writes a private key in DER, as its seed and the expanded key that the seed generates.
      * @example
      * mlDsa65.bothToDer(new Uint8Array(32).fill(7)).length; // 4098
      * @throws `MlDsaError` 15.
      */
     bothToDer(seed: Uint8Array): Uint8Array;
     /**
-     * The expanded key of a private key in DER, in any of the three forms.
+     * Reads the expanded key of a private key in DER, in any of the three forms.
      * @example
      * mlDsa65.privateKeyFromDer(mlDsa65.privateKeyToDer(privateKey)).length; // 4032
-     * @throws `MlDsaError` 18 to 23 for other bytes, 24 for a key of another set, 25 where its parts don't belong together, 15.
+     * @throws `MlDsaError` 18 to 23 for other bytes, 24 for a key of another set, 25 if its parts don't belong together, 15.
      */
     privateKeyFromDer(der: Uint8Array): Uint8Array;
     /**
-     * The seed of a private key in DER.
+     * Reads the seed of a private key in DER.
      * @example
      * mlDsa65.seedFromDer(mlDsa65.seedToDer(new Uint8Array(32).fill(7)))[31]; // 7
-     * @throws `MlDsaError` as of `privateKeyFromDer`, 26 where it has no seed.
+     * @throws `MlDsaError` as with `privateKeyFromDer`, or 26 if it has no seed.
      */
     seedFromDer(der: Uint8Array): Uint8Array;
 }
 
-/** A compiled module, where the types of WebAssembly are known. */
+/** A compiled module, if the types of WebAssembly are known. */
 export type CompiledModule = typeof globalThis extends { WebAssembly: { Module: { prototype: infer Module } } }
     ? Module & object
     : object;
@@ -248,11 +253,11 @@ export type Source =
     | CompiledModule;
 
 /**
- * Loads the WebAssembly module and gives the three parameter sets. By default `mldsa` reads `mldsa.wasm` beside its own
- * file, or has it inside where it is bundled for browsers, and `mldsa/inline` has it inside everywhere.
+ * Loads the WebAssembly module and returns the three parameter sets. By default `mldsa` reads `mldsa.wasm` beside its own
+ * file, or has it inside if it is bundled for browsers; `mldsa/inline` has it inside everywhere.
  * @example
  * const { mlDsa44, mlDsa65, mlDsa87 } = await load();
- * @throws `Error` where `isSupported` is false, or the module is not found; `TypeError` for another source, text that is
+ * @throws `Error` if `isSupported` is false, or the module is not found; `TypeError` for another source, text that is
  * no URL, a second argument, or from `fetch`; `WebAssembly.CompileError` for bytes that are no module.
  */
 export function load(

@@ -229,19 +229,11 @@ class Tries(unittest.TestCase):
         self.runs("sh", "-c", again, cwd=self.files)
         self.runs("sh", "-c", again, cwd=self.dist, status=1)
 
-    def for_cargo(self):
-        """A home of cargo's, which has Debian's crates where there is no registry."""
-        home = self.room / "cargo"
-        shutil.copytree(TOP / "rust/signature", home / "signature")
-        words = "".join(f"{word}\n" for word in registry.cargo_words() if "=" in word)
-        (home / "config.toml").write_text(words.replace(f"{TOP}/rust", str(home)), encoding="utf-8")
-        return home
-
     @wants("cc", "pkg-config")
     def test_readme(self):
-        """the lines of README under 'Getting it', whose files are all in the list"""
+        """the lines of README under 'Packages', whose files are all in the list"""
         page = (TOP / "README.md").read_text(encoding="utf-8")
-        shown = [it.replace("FINGERPRINT", self.fingerprint) for it in lines(page, "## Getting it\n")]
+        shown = [it.replace("FINGERPRINT", self.fingerprint) for it in lines(page, "## Packages\n")]
         listed = set(re.findall(r"^\w{64}  (.+)$", (self.dist / "SHA256SUMS").read_text(encoding="utf-8"), re.M))
         taken = set(re.findall(r"(?<=[\s/])[\w.-]+\.(?:tar\.gz|tgz|crate|whl|deb)", "\n".join(shown)))
         self.assertTrue(taken and taken <= listed, taken - listed)
@@ -251,7 +243,7 @@ class Tries(unittest.TestCase):
             if line not in run:
                 print(f"    NOT RUN: {line}")
         cargo = {"RUSTUP_HOME": os.environ.get("RUSTUP_HOME", os.path.expanduser("~/.rustup")),
-                 "CARGO_HOME": self.for_cargo()}
+                 "CARGO_HOME": registry.home(self.room / "cargo")}
         path = f"{self.had}:{pathlib.Path(shutil.which('cargo') or '/usr/bin/cargo').parent}:{PATH}"
         said = self.runs("bash", "-e", "-c", "\n".join([openssl() or "", *run]), cwd=self.dist, path=path, **cargo)
         for wanted in (r"^(SHA256SUMS: )?valid$", r"^verified: yes$", r": OK$"):

@@ -8,6 +8,7 @@ signature 2 in Debian 12, rust/signature has the place.
 import functools
 import os
 import pathlib
+import shutil
 import subprocess
 import sys
 
@@ -71,6 +72,14 @@ def cargo_words(workspace=TOP):
     print(f"cargo has no registry: it takes Debian's packages in {REGISTRY}, and Cargo.lock names these; delete that "
           "file before cargo takes crates from elsewhere", file=sys.stderr)
     return tuple(words)
+
+
+def home(folder):
+    """Makes a home of cargo's, which has Debian's crates where there is no registry, and gives its folder."""
+    shutil.copytree(TOP / "rust/signature", folder / "signature")
+    words = "".join(f"{word}\n" for word in cargo_words() if "=" in word)
+    (folder / "config.toml").write_text(words.replace(f"{TOP}/rust", str(folder)), encoding="utf-8")
+    return folder
 
 
 if __name__ == "__main__":

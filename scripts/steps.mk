@@ -6,9 +6,9 @@ python = flock out/python.lock
 
 # Without the kit, over what cargo builds: what others wait for, and then the longest first.
 TEST = tools library definitions rust rust-others programs mlsign-rust lint fuzzers c-gcc c-clang c-sanitized js erasing python \
-	vectors-wasm vectors-rust vectors-c vectors-mlsign refusals pages js-page erased tokens installs
+	vectors-wasm vectors-rust vectors-c vectors-mlsign refusals pages typed js-page erased tokens sets installs
 # With the kit: `rt ci`, and what is native, over what it left.
-CHECK = proof tools-check archives secrets ledger mlsign native-c native-c-v3 native-c-aarch64 native-c-musl \
+CHECK = proof tools-check archives secrets ledger mlsign growths native-c native-c-v3 native-c-aarch64 native-c-musl \
 	native-c-clang native-c-sanitized native-c-valgrind native-python native-vectors-v2 native-vectors-v3 \
 	native-vectors-aarch64 native-vectors-mlsign native-fuzzers rust-aarch64 c-valgrind secrets-rust module examples packages
 .PHONY: $(TEST) $(CHECK) list-test list-check
@@ -20,8 +20,11 @@ list-check: ; @echo $(CHECK) $(TEST)
 tools: ; $(step) -- scripts/tools
 definitions: ; $(step) -- tools/definitions/run --short
 pages: ; $(step) -- scripts/pages
+# (over what these build)
+typed: library programs mlsign-rust ; $(step) cargo cc -- $(python) tests/pages
 installs: library ; $(step) cc make -- packaging/test_install.py
 tokens: ; $(step) -- tools/tokens
+sets: ; $(step) -- tools/sets --check
 erased: tools ; $(step) cargo -- tools/erase --check
 erasing: tools ; $(step) cargo -- tools/test_erase.py
 programs: tools ; $(step) cargo -- scripts/programs test
@@ -63,6 +66,7 @@ native-vectors-v3: archives ; $(step) gcc -- vectors/run c x86-64-v3
 native-vectors-aarch64: archives ; $(step) aarch64-linux-gnu-gcc qemu-aarch64 -- vectors/run c aarch64
 native-fuzzers: archives fuzzers ; $(step) clang -- c/fuzz/run --native
 native-vectors-mlsign: proof ; $(step) -- vectors/run mlsign
+growths: proof ; $(step) cc -- tools/refused-growths --programs 44
 rust-aarch64: tools-check ; $(step) cargo -- rust/test --processor aarch64
 secrets: archives ; $(step) gcc valgrind -- bench/secrets/run
 secrets-rust: library ; $(step) gcc valgrind -- bench/secrets/run --rust

@@ -1,4 +1,6 @@
-"""ML-DSA (FIPS 204) at the parameter sets 44, 65 and 87, by a library compiled from proved code; this Python is tested.
+"""ML-DSA (FIPS 204) at the parameter sets 44, 65 and 87, over a library made of proved source.
+
+This Python is only tested, and so is what pip builds from a clone: plain Rust that a script makes of that source.
 
     >>> key = MLDSA65PrivateKey.generate()
     >>> public = key.public_key()

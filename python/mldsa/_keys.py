@@ -144,7 +144,7 @@ class MessageHasher(_Unique):
             _done(_library.mu_update(given, self._state))
 
     def mu(self) -> bytes:
-        """The 64 bytes of mu (FIPS 204, Algorithm 7, line 6) of all pieces so far. More may follow.
+        """Returns the 64 bytes of mu (FIPS 204, Algorithm 7, line 6) of all pieces so far. More may follow.
 
             >>> len(public.hasher().mu())
             64
@@ -155,7 +155,7 @@ class MessageHasher(_Unique):
         return made.raw
 
     def copy(self) -> MessageHasher:
-        """Another hasher of the pieces so far, which goes on by itself.
+        """Returns another hasher with the pieces so far, which goes on by itself.
 
             >>> hasher = public.hasher()
             >>> hasher.copy().mu() == hasher.mu()
@@ -209,8 +209,8 @@ class _Key:
 
 
 class _Signer(_Key):
-    """What signs. Each call raises SigningError where no signature is made though its arguments are valid; no such
-    input is known."""
+    """What signs. A call raises SigningError if it makes no signature although its arguments are valid; nobody knows
+    such an input."""
 
     __slots__ = ()
     _BEGINS = "mu_begin_private"
@@ -224,8 +224,9 @@ class _Signer(_Key):
         return signature.raw
 
     def sign(self, data: Buffer, context: Optional[Buffer] = None, *, deterministic: bool = False) -> bytes:
-        """The signature of a message (Algorithm 2), valid under its context only: at most 255 bytes, by default none.
-        Random bytes of the system go into it; with `deterministic` none do, and equal messages have equal signatures.
+        """Signs a message (Algorithm 2). The signature is valid under its context only, which has at most 255 bytes and
+        is empty by default. Random bytes of the system go into it; with `deterministic` none do, and equal messages get
+        equal signatures.
 
             >>> signature = key.sign(b"a message", b"a context")
 
@@ -235,7 +236,7 @@ class _Signer(_Key):
 
     def sign_digest(self, digest: Buffer, hash_name: str, context: Optional[Buffer] = None, *,
                     deterministic: bool = False) -> bytes:
-        """The signature (HashML-DSA, Algorithm 4) of a digest by the hash function with this name in hashlib.
+        """Signs a digest (HashML-DSA, Algorithm 4) that the hash function with this name in hashlib made.
 
             >>> digest = hashlib.sha512(b"a message").digest()
             >>> signature = key.sign_digest(digest, "sha512")
@@ -247,16 +248,16 @@ class _Signer(_Key):
         return self._signed("hash_sign", deterministic, given, _context(context), oid)
 
     def sign_file(self, file: File, context: Optional[Buffer] = None, *, deterministic: bool = False) -> bytes:
-        """The signature of the contents of a file of any size, by its name or open for reading bytes: that of `sign`.
+        """Signs the contents of a file of any size, as `sign` does. You give its name, or the file open for reading.
 
             >>> signature = key.sign_file("notes", b"a context")
 
-        Errors as of `sign`, and OSError where the file can't be read.
+        Errors as with `sign`, and OSError if the file can't be read.
         """
         return self.sign_mu(self.hasher(context)._add(_pieces(file)).mu(), deterministic=deterministic)
 
     def sign_mu(self, mu: Buffer, *, deterministic: bool = False) -> bytes:
-        """The signature of the message that has this `mu`, of 64 bytes, which a `MessageHasher` makes: that of `sign`.
+        """Signs the message that has this `mu` of 64 bytes, which a `MessageHasher` makes, as `sign` does.
 
             >>> signature = key.sign_mu(key.hasher(b"a context").mu())
 
@@ -266,8 +267,8 @@ class _Signer(_Key):
 
 
 class _Verifier(_Key):
-    """What verifies. Each call returns nothing if the signature is accepted, and else raises InvalidSignature: also for
-    one of a wrong length."""
+    """What verifies. A call returns nothing if the signature is accepted, and otherwise raises InvalidSignature, also
+    for a signature of a wrong length."""
 
     __slots__ = ()
     _BEGINS = "mu_begin"
@@ -282,7 +283,7 @@ class _Verifier(_Key):
         _done(status)
 
     def verify(self, signature: Buffer, data: Buffer, context: Optional[Buffer] = None) -> None:
-        """Returns if the signature is one of this message under this context (Algorithm 3).
+        """Verifies the signature of a message under a context (Algorithm 3): returns nothing, or raises.
 
             >>> public.verify(signature, b"a message", b"a context")
             >>> public.verify(signature, b"a message")
@@ -295,7 +296,7 @@ class _Verifier(_Key):
 
     def verify_digest(self, signature: Buffer, digest: Buffer, hash_name: str,
                       context: Optional[Buffer] = None) -> None:
-        """Returns if the signature (HashML-DSA, Algorithm 5) is one of this digest by this function of hashlib.
+        """Verifies the signature of a digest (HashML-DSA, Algorithm 5) that this function of hashlib made.
 
             >>> digest = hashlib.sha512(b"a message").digest()
             >>> public.verify_digest(key.sign_digest(digest, "sha512"), digest, "sha512")
@@ -306,16 +307,16 @@ class _Verifier(_Key):
         self._verified("hash_verify", signature, given, _context(context), oid)
 
     def verify_file(self, signature: Buffer, file: File, context: Optional[Buffer] = None) -> None:
-        """Returns if the signature is one of the contents of a file, by its name or open for reading bytes.
+        """Verifies the signature of the contents of a file. You give its name, or the file open for reading bytes.
 
             >>> public.verify_file(key.sign_file("notes"), "notes")
 
-        Errors as of `verify`, and OSError where the file can't be read.
+        Errors as with `verify`, and OSError if the file can't be read.
         """
         self.verify_mu(signature, self.hasher(context)._add(_pieces(file)).mu())
 
     def verify_mu(self, signature: Buffer, mu: Buffer) -> None:
-        """Returns if the signature is one of the message that has this `mu`, which a `MessageHasher` makes.
+        """Verifies the signature of the message that has this `mu`, which a `MessageHasher` makes.
 
             >>> mu = public.hasher(b"a context").mu()
             >>> public.verify_mu(key.sign_mu(mu), mu)
@@ -326,7 +327,7 @@ class _Verifier(_Key):
 
 
 class PreparedPublicKey(_Verifier, _Unique):
-    """A public key that verifies many signatures faster, with the results of the key that it was made of."""
+    """A public key that verifies many signatures faster. It says what the key says that it was made from."""
 
     __slots__ = ()
 
@@ -393,7 +394,7 @@ class PublicKey(_Verifier):
         return _fingerprint(self._set, self._plain)
 
     def prepare(self) -> PreparedPublicKey:
-        """The key with what each call would compute of it anew.
+        """Returns the key together with what each call would compute from it anew.
 
             >>> public.prepare().verify(signature, b"a message", b"a context")
         """
@@ -434,7 +435,7 @@ def _fingerprint(set_: ParameterSet, public: bytes) -> str:
 
 
 class PreparedPrivateKey(_Signer, _Unique):
-    """A private key that signs many messages faster, with the results of the key that it was made of."""
+    """A private key that signs many messages faster. It signs as the key does that it was made from."""
 
     __slots__ = ()
 
@@ -458,7 +459,7 @@ class PrivateKey(_Signer, _Unique):
 
     @classmethod
     def generate(cls: Type[_Private]) -> _Private:
-        """A new key, from a seed of the system's generator.
+        """Makes a new key, from a seed that the system's generator draws.
 
             >>> key = MLDSA65PrivateKey.generate()
         """
@@ -483,7 +484,7 @@ class PrivateKey(_Signer, _Unique):
 
     @classmethod
     def from_expanded_bytes(cls: Type[_Private], data: Buffer) -> _Private:
-        """The key with these bytes (skEncode, Algorithm 24), from which its seed can't be had.
+        """The key with these bytes (skEncode, Algorithm 24). Nobody can compute its seed from them.
 
             >>> MLDSA65PrivateKey.from_expanded_bytes(key.expanded_bytes()).public_key() == public
             True
@@ -508,7 +509,7 @@ class PrivateKey(_Signer, _Unique):
         return _PUBLIC[self._set.number].from_public_bytes(self._public)
 
     def private_bytes_raw(self) -> bytes:
-        """The seed, of 32 bytes: all that has to be stored. ValueError if the key was made of its expanded bytes.
+        """The seed, of 32 bytes. That is all you have to store. ValueError if the key was made from its expanded bytes.
 
             >>> len(key.private_bytes_raw())
             32
@@ -526,8 +527,8 @@ class PrivateKey(_Signer, _Unique):
         return self._plain
 
     def to_der(self, parts: Optional[str] = None) -> bytes:
-        """The key as a OneAsymmetricKey in DER (RFC 9881), not encrypted: its `seed`, by default where it has one, its
-        `expanded` key, or `both`.
+        """The key as a OneAsymmetricKey in DER (RFC 9881), not encrypted. `parts` is its `seed`, its `expanded` key, or
+        `both`; by default the seed, if it has one.
 
             >>> load_der_private_key(key.to_der("both")).public_key() == public
             True
@@ -545,7 +546,7 @@ class PrivateKey(_Signer, _Unique):
         return der.raw
 
     def to_pem(self, parts: Optional[str] = None) -> bytes:
-        """The same in PEM, as `mlsign` and OpenSSL write it. Errors as of `to_der`.
+        """The same in PEM, as `mlsign` and OpenSSL write it. Errors as with `to_der`.
 
             >>> load_pem_private_key(key.to_pem()).public_key() == public
             True
@@ -553,7 +554,7 @@ class PrivateKey(_Signer, _Unique):
         return _files.encode_pem(_files.PRIVATE, self.to_der(parts))
 
     def prepare(self) -> PreparedPrivateKey:
-        """The key with what each call would compute of it anew, as secret as the key.
+        """Returns the key together with what each call would compute from it anew. It is as secret as the key.
 
             >>> signature = key.prepare().sign(b"a message", b"a context")
         """

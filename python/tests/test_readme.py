@@ -38,7 +38,7 @@ narrow.verify(bytearray(), memoryview(b""))
 
 class Page(unittest.TestCase):
     def test_blocks(self):
-        self.assertGreaterEqual(len(BLOCKS), 2)
+        self.assertGreaterEqual(len(BLOCKS), 3)
         for number, block in enumerate(BLOCKS):
             with self.subTest(number=number), tempfile.TemporaryDirectory() as room:
                 done = subprocess.run([*PYTHON, "-c", block], cwd=room, capture_output=True, text=True, check=False)

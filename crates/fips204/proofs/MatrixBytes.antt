@@ -1,15 +1,13 @@
--- Lists of bytes that are pieces of one size, and a matrix as such: rows, their entries, and the words of these.
-use Rattle.std.proofs.Common.{◌≡◌, ◌∙◌, ◌<◌, ◌≤◌, ◌≤ℤ◌, ◌+◌, ◌*◌, ◌^◌, ℕ, ℤ, pos, nat_abs, List, [], ◌∷◌, ◌++◌, length, take, drop, get_or, set, ap, sym, arith, w32, length-append, length-set, length-take, append_assoc, refl, inl, inr}
-use Rattle.std.proofs.lemmas.List.{take_all, take_at, take_more, take_more_set, drop_at, take-append-drop, length-take-le, flat_map_more, get_or-take, get_or-drop}
-use Rattle.std.proofs.lemmas.List.Elements.{All-push, All-take, All-head, All-tail, All-get_or}
-use Rattle.std.proofs.lemmas.List.Concat.{flat_map-append}
+-- The bytes of a matrix: rows, their entries, and the words of these.
+use Rattle.std.proofs.Common.{◌≡◌, ◌∙◌, ◌<◌, ◌≤◌, ◌≤ℤ◌, ◌+◌, ◌*◌, ◌^◌, ℕ, ℤ, pos, nat_abs, List, ◌++◌, length, take, drop, get_or, ap, sym, arith, w32, length-append, length-take, append_assoc, refl, inl, inr}
+use Rattle.std.proofs.lemmas.List.{take-append-drop, get_or-take, get_or-drop}
 use Rattle.std.proofs.lemmas.Int.{ints}
 use Rattle.std.proofs.lemmas.Nat.{from_le_bytes-to_le_bytes_4}
-use Rattle.std.proofs.Math.Seq.{take-add}
 use Rattle.std.specs.Int.{to_le_bytes, from_le_bytes}
 use Rattle.std.specs.Prelude.{Option, MatchOption, Some, None}
-use Rattle.std.specs.List.{All, flat_map}
-use Rattle.fips204_base.proofs.EncodedParts.{width_4095_4096}
+use Rattle.fips204_base.proofs.EncodedParts.{part, width_4095_4096}
+pub use Rattle.fips204_base.proofs.Pieces.{Reads, length-put_mid, piece-within, piece_more, put_piece, reads_all, reads_more, unread}
+use Rattle.fips204_base.proofs.Pieces.{length-pieces}
 use Rattle.fips204_base.proofs.VectorBytes.{vector-length}
 use Rattle.fips204_base.specs.Bounds.{TransformsWithin}
 use Rattle.fips204_base.specs.Vectors.{MatrixWithin}
@@ -17,68 +15,6 @@ use Rattle.fips204.specs.PreparedBytes.{entry_bytes, row_bytes, matrix_bytes, Is
 use Rattle.fips204.specs.ParameterSets.{private_key_length}
 use Rattle.fips204.proofs.ParameterSets.{of_each_set, matrix_room}
 use Rattle.fips204.proofs.Names.{ParameterSet, IsSet, T, cases_lt, get_or_past, PublicParts, PrivateParts, ArePublicParts, ArePrivateParts, PreparedPublic, PreparedPrivate, public_key_bytes, private_key_bytes, vector_bytes, width, bit_length}
-
--- ---- pieces
-
--- one piece more
-pub piece_more : {X : Type 0} (f : X → List ℕ) (v : List X) (i : ℕ) (d : X) → i < length v → flat_map f (take (i + 1) v) ≡ flat_map f (take i v) ++ f (get_or v i d)
-piece_more f v i d l = ap (flat_map f) (take_more v i d l) ∙ sym (flat_map_more f [] (take i v) (get_or v i d))
-
-pub piece_stored : {X : Type 0} (f : X → List ℕ) (v : List X) (i : ℕ) (w : X) → i < length v → flat_map f (take (i + 1) (set v i w)) ≡ flat_map f (take i v) ++ f w
-piece_stored f v i w l = ap (flat_map f) (take_more_set v i w l) ∙ sym (flat_map_more f [] (take i v) w)
-
--- the pieces of n elements have n times their size
-pub length-pieces : {X : Type 0} (P : X → Type 0) (f : X → List ℕ) (size : ℕ) (v : List X) → ((x : X) → P x → length (f x) ≡ size) → All P v → length (flat_map f v) ≡ size * length v
-length-pieces P f size [] each all = omega arith
-length-pieces P f size (x ∷ v) each all =
-    let here = each x (All-head P x v all) in
-    let rest = length-pieces P f size v each (All-tail P x v all) in
-    length-append (f x) (flat_map f v) ∙ omega (arith, here, rest)
-
--- piece i
-pub piece_at : {X : Type 0} (P : X → Type 0) (f : X → List ℕ) (size : ℕ) (v : List X) (i : ℕ) (d : X) → ((x : X) → P x → length (f x) ≡ size) → All P v → i < length v
-    → take size (drop (size * i) (flat_map f v)) ≡ f (get_or v i d)
-piece_at P f size v i d each all l =
-    let front : length (flat_map f (take i v)) ≡ size * i = length-pieces P f size (take i v) each (All-take P i v all) ∙ ap (λ n. size * n) (length-take-le i v (omega arith)) in
-    let here : length (f (get_or v i d)) ≡ size = each (get_or v i d) (All-get_or P v i d l all) in
-    let cut : flat_map f v ≡ flat_map f (take i v) ++ (f (get_or v i d) ++ flat_map f (drop (i + 1) v)) =
-    ap (flat_map f) (sym (take-append-drop (i + 1) v)) ∙ flat_map-append f (take (i + 1) v) (drop (i + 1) v)
-    ∙ ap (λ x. x ++ flat_map f (drop (i + 1) v)) (piece_more f v i d l) ∙ append_assoc (flat_map f (take i v)) (f (get_or v i d)) (flat_map f (drop (i + 1) v)) in
-    ap (λ x. take size (drop (size * i) x)) cut ∙ ap (take size) (drop_at (flat_map f (take i v)) (f (get_or v i d) ++ flat_map f (drop (i + 1) v)) (size * i) front)
-    ∙ take_at (f (get_or v i d)) (flat_map f (drop (i + 1) v)) size here
-
--- the first i of n elements are read from the bytes, and P holds of them
-pub record Reads {X : Type 0} (P : X → Type 0) (f : X → List ℕ) (n size i : ℕ) (bytes : List ℕ) (v : List X) : Type 0 where
-  pub count : length v ≡ n
-  pub read : flat_map f (take i v) ≡ take (size * i) bytes
-  pub holds : All P (take i v)
-
--- one more is read
-pub reads_more : {X : Type 0} (P : X → Type 0) (f : X → List ℕ) (n size i : ℕ) (bytes : List ℕ) (v : List X) (w : X) → Reads P f n size i bytes v → i < n
-    → f w ≡ take size (drop (size * i) bytes) → P w → Reads P f n size (i + 1) bytes (set v i w)
-reads_more P f n size i bytes v w before h here holds =
-    let room : i < length v = omega (arith, h, before.count) in
-    let next : size * i + size ≡ size * (i + 1) = omega arith in
-    record {
-      count = length-set v i w ∙ before.count;
-      read = piece_stored f v i w room ∙ rw (before.read, here) (sym (take-add (size * i) size bytes) ∙ ap (λ n. take n bytes) next);
-      holds = rw (take_more_set v i w room) (All-push P (take i v) w before.holds holds);
-    }
-
--- all are read
-pub reads_all : {X : Type 0} (P : X → Type 0) (f : X → List ℕ) (n size i : ℕ) (bytes : List ℕ) (v : List X) → Reads P f n size i bytes v → i ≡ n → length bytes ≡ size * n
-    → ((length v ≡ n) × All P v) × (flat_map f v ≡ bytes)
-reads_all P f n size i bytes v r done room =
-    let all : take i v ≡ v = take_all i v (omega (arith, done, r.count)) in
-    let whole : take (size * i) bytes ≡ bytes = take_all _ bytes (rw done (omega (arith, room))) in
-    ((r.count, rw all at r.holds), rw (all, whole) at r.read)
-
--- none has these bytes where no element has the bytes of piece i
-pub unread : {X : Type 0} (P : X → Type 0) (f : X → List ℕ) (n size i : ℕ) (bytes : List ℕ) (d : X) → ((x : X) → P x → length (f x) ≡ size) → i < n
-    → ((x : X) → P x → f x ≡ take size (drop (size * i) bytes) → ⊥) → (v : List X) → (length v ≡ n) × All P v → flat_map f v ≡ bytes → ⊥
-unread P f n size i bytes d each h none v (count, all) same =
-    let room : i < length v = omega (arith, h, count) in
-    none (get_or v i d) (All-get_or P v i d room all) (sym (ap (λ b. take size (drop (size * i) b)) (sym same) ∙ piece_at P f size v i d each all room))
 
 -- the bytes of a piece are bytes
 pub small_piece : (at n : ℕ) (bytes : List ℕ) → ((i : ℕ) → get_or bytes i 0 < 256) → (i : ℕ) → get_or (take n (drop at bytes)) i 0 < 256
@@ -140,21 +76,18 @@ length-private eta k l sk are =
     let t0 : length (vector_bytes 4095 4096 sk.t0) ≡ 32 * 13 * k = vector-length k 4095 4096 sk.t0 are.t0 ∙ ap (λ w. 32 * w * k) width_4095_4096 in
     simp length-append (omega (arith, are.rho, are.key, are.tr, s1, s2, t0))
 
--- the matrix in the bytes of a prepared key
-pub public_matrix : (k l n : ℕ) (bytes : List ℕ) (pk : PreparedPublic) → n ≡ 32 + 320 * k → IsPreparedPublicOf k l bytes pk → matrix_bytes pk.matrix ≡ drop 64 (drop n bytes)
-public_matrix k l n bytes pk size is =
+-- the parts of a prepared key's bytes
+pub public_cut : (k l n : ℕ) (bytes : List ℕ) (pk : PreparedPublic) → n ≡ 32 + 320 * k → IsPreparedPublicOf k l bytes pk
+    → (take n bytes ≡ public_key_bytes pk.parts.rho pk.parts.t1) × (take 64 (drop n bytes) ≡ pk.parts.tr) × (drop 64 (drop n bytes) ≡ matrix_bytes pk.matrix)
+public_cut k l n bytes pk size is =
     let key = public_key_bytes pk.parts.rho pk.parts.t1 in
-    let matrix = matrix_bytes pk.matrix in
-    let cut : bytes ≡ key ++ (pk.parts.tr ++ matrix) = sym is.encoding ∙ append_assoc key pk.parts.tr matrix in
-    sym (ap (λ b. drop 64 (drop n b)) cut ∙ ap (drop 64) (drop_at key (pk.parts.tr ++ matrix) n (length-public k pk.parts is.parts ∙ sym size)) ∙ drop_at pk.parts.tr matrix 64 is.parts.tr)
+    let front = part n bytes key _ (sym is.encoding ∙ append_assoc key pk.parts.tr (matrix_bytes pk.matrix)) (length-public k pk.parts is.parts ∙ sym size) in
+    let (tr, matrix) = part 64 (drop n bytes) pk.parts.tr (matrix_bytes pk.matrix) front.1 is.parts.tr in
+    (front.0, tr, matrix)
 
-pub private_matrix : (eta k l n : ℕ) (bytes : List ℕ) (sk : PreparedPrivate) → n ≡ length (private_key_bytes eta sk.parts) → IsPreparedPrivateOf eta k l bytes sk → matrix_bytes sk.matrix ≡ drop n bytes
-private_matrix eta k l n bytes sk size is =
-    sym (ap (drop n) (sym is.encoding) ∙ drop_at (private_key_bytes eta sk.parts) (matrix_bytes sk.matrix) n (sym size))
-
-pub private_key_at : (eta k l n : ℕ) (bytes : List ℕ) (sk : PreparedPrivate) → n ≡ length (private_key_bytes eta sk.parts) → IsPreparedPrivateOf eta k l bytes sk → private_key_bytes eta sk.parts ≡ take n bytes
-private_key_at eta k l n bytes sk size is =
-    sym (ap (take n) (sym is.encoding) ∙ take_at (private_key_bytes eta sk.parts) (matrix_bytes sk.matrix) n (sym size))
+pub private_cut : (eta k l n : ℕ) (bytes : List ℕ) (sk : PreparedPrivate) → n ≡ length (private_key_bytes eta sk.parts) → IsPreparedPrivateOf eta k l bytes sk
+    → (take n bytes ≡ private_key_bytes eta sk.parts) × (drop n bytes ≡ matrix_bytes sk.matrix)
+private_cut eta k l n bytes sk size is = part n bytes (private_key_bytes eta sk.parts) (matrix_bytes sk.matrix) (sym is.encoding) (sym size)
 
 -- the bytes of a prepared key from those of its parts
 pub public_joined : (n : ℕ) (bytes key tr matrix : List ℕ) → key ≡ take n bytes → tr ≡ take 64 (drop n bytes) → matrix ≡ drop 64 (drop n bytes) → key ++ tr ++ matrix ≡ bytes
@@ -170,7 +103,7 @@ pub public_found : {X : Type 0} (P : List (List T) → X → Type 0) (Q : Prepar
     → ((a : List (List T)) (x : X) → P a x → Q record { parts = parts; matrix = a } x)
     → MatchOption answer ((b : List (List T)) → IsMatrix k l b → matrix_bytes b ≡ matrix → ⊥) (λ x. (a : List (List T)) × IsMatrix k l a × (matrix_bytes a ≡ matrix) × P a x)
     → MatchOption answer ((pk : PreparedPublic) → IsPreparedPublicOf k l bytes pk → ⊥) (λ x. (pk : PreparedPublic) × IsPreparedPublicOf k l bytes pk × Q pk x)
-public_found P Q k l n bytes matrix parts None size are key tr rest carry none = λ pk is. none pk.matrix is.matrix (public_matrix k l n bytes pk size is ∙ sym rest)
+public_found P Q k l n bytes matrix parts None size are key tr rest carry none = λ pk is. none pk.matrix is.matrix (sym (rest ∙ (public_cut k l n bytes pk size is).2))
 public_found P Q k l n bytes matrix parts (Some x) size are key tr rest carry (a, is, same, holds) = (
   record { parts = parts; matrix = a },
   record { parts = are; matrix = is; encoding = public_joined n bytes (public_key_bytes parts.rho parts.t1) parts.tr (matrix_bytes a) key tr (same ∙ rest) },
@@ -183,7 +116,7 @@ pub private_found : {X : Type 0} (P : List (List T) → X → Type 0) (Q : Prepa
     → ((a : List (List T)) (x : X) → P a x → Q record { parts = parts; matrix = a } x)
     → MatchOption answer ((b : List (List T)) → IsMatrix k l b → matrix_bytes b ≡ matrix → ⊥) (λ x. (a : List (List T)) × IsMatrix k l a × (matrix_bytes a ≡ matrix) × P a x)
     → MatchOption answer ((sk : PreparedPrivate) → IsPreparedPrivateOf eta k l bytes sk → ⊥) (λ x. (sk : PreparedPrivate) × IsPreparedPrivateOf eta k l bytes sk × Q sk x)
-private_found P Q eta k l n bytes matrix parts None long are key rest carry none = λ sk is. none sk.matrix is.matrix (private_matrix eta k l n bytes sk (long sk.parts is.parts) is ∙ sym rest)
+private_found P Q eta k l n bytes matrix parts None long are key rest carry none = λ sk is. none sk.matrix is.matrix (sym (rest ∙ (private_cut eta k l n bytes sk (long sk.parts is.parts) is).1))
 private_found P Q eta k l n bytes matrix parts (Some x) long are key rest carry (a, is, same, holds) = (
   record { parts = parts; matrix = a },
   record { parts = are; matrix = is; encoding = private_joined n bytes (private_key_bytes eta parts) (matrix_bytes a) key (same ∙ rest) },

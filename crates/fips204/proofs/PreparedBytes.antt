@@ -1,17 +1,16 @@
 -- The bytes of prepared keys tell the keys.
-use Rattle.std.proofs.Common.{◌≡◌, ◌∙◌, ◌+◌, ◌*◌, ◌^◌, ◌<◌, ℕ, ℤ, nat_abs, List, [], ◌∷◌, ◌++◌, length, take, drop, get_or, map, ap, sym, subst, arith, refl, w32, append_assoc, length-append, Result, Ok, Err, Some}
+use Rattle.std.proofs.Common.{◌≡◌, ◌∙◌, ◌+◌, ◌*◌, ◌^◌, ◌<◌, ℕ, ℤ, nat_abs, List, [], ◌∷◌, ◌++◌, length, get_or, map, ap, sym, subst, arith, refl, w32, length-append, Result, Ok, Err, Some}
 use Rattle.std.specs.Prelude.{MatchResult, ⊤}
 use Rattle.std.proofs.lemmas.Int.{ints}
-use Rattle.std.proofs.lemmas.List.{take_at, drop_at}
-use Rattle.std.proofs.lemmas.List.Elements.{All-head, All-tail}
 use Rattle.std.proofs.lemmas.Nat.{from_le_bytes-to_le_bytes_4}
 use Rattle.std.specs.Int.{from_le_bytes}
-use Rattle.std.specs.List.{All, flat_map, range_with_len}
+use Rattle.std.specs.List.{range_with_len}
 use Rattle.fips204_base.proofs.Sampled.{all_present-at, matrix_entry-residues}
 use Rattle.fips204_base.specs.Sampling.{all_present, matrix_entry}
 use Rattle.fips204.specs.PreparedBytes.{entry_bytes, row_bytes, matrix_bytes, IsEntry, IsRow, IsMatrix, prepared_public_bytes, prepared_private_bytes, IsPreparedPublicOf, IsPreparedPrivateOf, PreparedThroughBytes}
 use Rattle.fips204.specs.ParameterSets.{private_key_length}
-use Rattle.fips204.proofs.MatrixBytes.{IsValue, value_bytes, length-value, length-entry, length-row, length-matrix, length-public, length-private_at, length-private, public_matrix, private_matrix, private_key_at}
+use Rattle.fips204.proofs.MatrixBytes.{IsValue, value_bytes, length-value, length-entry, length-row, length-matrix, length-public, length-private_at, length-private, private_cut, public_cut}
+use Rattle.fips204_base.proofs.Pieces.{same_pieces}
 use Rattle.fips204.proofs.Names.{Fault, T, ParameterSet, IsSet, PublicParts, PrivateParts, ArePublicParts, ArePrivateParts, PreparedPublic, PreparedPrivate, prepared_public, prepared_private, public_key_bytes, private_key_bytes, sampled_matrix}
 use Rattle.fips204.proofs.Prepared.{private_parts, public_parts}
 use Rattle.fips204.proofs.WholeKeys.{one_public_key, bytes_tell_keys}
@@ -30,19 +29,6 @@ sampled_is_matrix G rho k l a e =
     )
 
 -- ---- the bytes of a matrix tell it
-
-same_pieces : {X : Type 0} (P : X → Type 0) (f : X → List ℕ) (size : ℕ) (v w : List X) → ((x : X) → P x → length (f x) ≡ size) → ((x y : X) → P x → P y → f x ≡ f y → x ≡ y)
-    → length v ≡ length w → All P v → All P w → flat_map f v ≡ flat_map f w → v ≡ w
-same_pieces P f size [] [] each tells long one two same = refl
-same_pieces P f size [] (y ∷ w) each tells long one two same = absurd (omega (arith, long))
-same_pieces P f size (x ∷ v) [] each tells long one two same = absurd (omega (arith, long))
-same_pieces P f size (x ∷ v) (y ∷ w) each tells long one two same =
-    let a = each x (All-head P x v one) in
-    let b = each y (All-head P y w two) in
-    let here = tells x y (All-head P x v one) (All-head P y w two) (sym (take_at (f x) (flat_map f v) size a) ∙ ap (take size) same ∙ take_at (f y) (flat_map f w) size b) in
-    let rest = sym (drop_at (f x) (flat_map f v) size a) ∙ ap (drop size) same ∙ drop_at (f y) (flat_map f w) size b in
-    let after = same_pieces P f size v w each tells (omega (arith, long)) (All-tail P x v one) (All-tail P y w two) rest in
-    ap (λ z. z ∷ v) here ∙ ap (λ z. y ∷ z) after
 
 one_value : (x y : ℤ) → IsValue x → IsValue y → value_bytes x ≡ value_bytes y → x ≡ y
 one_value x y (low, high) (low', high') same =
@@ -70,33 +56,21 @@ same_public parts parts' matrix matrix' e f = cc
 same_private : (parts parts' : PrivateParts) (matrix matrix' : List (List T)) → parts ≡ parts' → matrix ≡ matrix' → Path PreparedPrivate record { parts = parts; matrix = matrix } record { parts = parts'; matrix = matrix' }
 same_private parts parts' matrix matrix' e f = cc
 
--- the bytes before the matrix
-public_front : (k l : ℕ) (bytes : List ℕ) (pk : PreparedPublic) → IsPreparedPublicOf k l bytes pk
-    → (public_key_bytes pk.parts.rho pk.parts.t1 ≡ take (32 + 320 * k) bytes) × (pk.parts.tr ≡ take 64 (drop (32 + 320 * k) bytes))
-public_front k l bytes pk is =
-    let n = 32 + 320 * k in
-    let key = public_key_bytes pk.parts.rho pk.parts.t1 in
-    let rest = pk.parts.tr ++ matrix_bytes pk.matrix in
-    let long = length-public k pk.parts is.parts in
-    let cut : bytes ≡ key ++ rest = sym is.encoding ∙ append_assoc key pk.parts.tr (matrix_bytes pk.matrix) in
-    (sym (ap (take n) cut ∙ take_at key rest n long), sym (ap (λ b. take 64 (drop n b)) cut ∙ ap (take 64) (drop_at key rest n long) ∙ take_at pk.parts.tr (matrix_bytes pk.matrix) 64 is.parts.tr))
-
 one_public : (k l : ℕ) (bytes : List ℕ) (pk other : PreparedPublic) → IsPreparedPublicOf k l bytes pk → IsPreparedPublicOf k l bytes other → pk ≡ other
 one_public k l bytes pk other one two =
-    let first = public_front k l bytes pk one in
-    let second = public_front k l bytes other two in
-    let matrix = public_matrix k l (32 + 320 * k) bytes pk refl one ∙ sym (public_matrix k l (32 + 320 * k) bytes other refl two) in
-    same_public pk.parts other.parts pk.matrix other.matrix (one_public_key k pk.parts other.parts one.parts two.parts (first.1 ∙ sym second.1) (first.0 ∙ sym second.0))
-    (one_matrix k l pk.matrix other.matrix one.matrix two.matrix matrix)
+    let (key, tr, matrix) = public_cut k l (32 + 320 * k) bytes pk refl one in
+    let (key', tr', matrix') = public_cut k l (32 + 320 * k) bytes other refl two in
+    same_public pk.parts other.parts pk.matrix other.matrix (one_public_key k pk.parts other.parts one.parts two.parts (sym tr ∙ tr') (sym key ∙ key'))
+    (one_matrix k l pk.matrix other.matrix one.matrix two.matrix (sym matrix ∙ matrix'))
 
 one_private : (p : ParameterSet) (bytes : List ℕ) (sk other : PreparedPrivate) → IsSet p → IsPreparedPrivateOf p.eta p.k p.l bytes sk → IsPreparedPrivateOf p.eta p.k p.l bytes other → sk ≡ other
 one_private p bytes sk other known one two =
     let n = length (private_key_bytes p.eta sk.parts) in
     let size : n ≡ length (private_key_bytes p.eta other.parts) = length-private p.eta p.k p.l sk.parts one.parts ∙ sym (length-private p.eta p.k p.l other.parts two.parts) in
-    let key = private_key_at p.eta p.k p.l n bytes sk refl one ∙ sym (private_key_at p.eta p.k p.l n bytes other size two) in
-    let matrix = private_matrix p.eta p.k p.l n bytes sk refl one ∙ sym (private_matrix p.eta p.k p.l n bytes other size two) in
-    same_private sk.parts other.parts sk.matrix other.matrix ((bytes_tell_keys p known).private_keys sk.parts other.parts one.parts two.parts key)
-    (one_matrix p.k p.l sk.matrix other.matrix one.matrix two.matrix matrix)
+    let (key, matrix) = private_cut p.eta p.k p.l n bytes sk refl one in
+    let (key', matrix') = private_cut p.eta p.k p.l n bytes other size two in
+    same_private sk.parts other.parts sk.matrix other.matrix ((bytes_tell_keys p known).private_keys sk.parts other.parts one.parts two.parts (sym key ∙ key'))
+    (one_matrix p.k p.l sk.matrix other.matrix one.matrix two.matrix (sym matrix ∙ matrix'))
 
 -- a key that was prepared is what its bytes say
 own_public : (p : ParameterSet) (G : List ℕ → List ℕ) (pk : PublicParts) (prepared : PreparedPublic) → ArePublicParts p.k pk → prepared_public p G pk ≡ Ok prepared

@@ -1,6 +1,7 @@
 -- Results and errors of whole calls.
-use Rattle.std.proofs.Common.{Result, ◌≡◌, ◌≤◌, ◌↔◌, ℕ, List, length, Bool, true, false, IsTrue, Option, Some, None, Ok, Err, refl, sym, ap, ◌∙◌, subst, nat_lt, if◌then◌else◌}
+use Rattle.std.proofs.Common.{Result, ◌≡◌, ◌≤◌, ◌↔◌, inl, inr, ℕ, List, length, Bool, true, false, IsTrue, Option, Some, None, Ok, Err, refl, sym, ap, ◌∙◌, subst, nat_lt, if◌then◌else◌}
 use Rattle.fips204.proofs.Names.{ltb-false, Fault, Input, representative, refused_or, input_fault, input_hash}
+use Rattle.fips204.specs.Refusals.{DrawsUnless}
 
 -- two values are the same where the options that hold them are
 pub same_some : {A : Type 0} (x y : A) → Some x ≡ Some y → x ≡ y
@@ -59,3 +60,11 @@ signed_input H tr own input signs accepts signature same law made =
     let mu = representative H tr input in
     let both = not_refused (input_fault input) (signs mu) signature made in
     (both.0, subst (λ t. accepts (representative H t input)) same (law mu both.1))
+
+-- a call that draws from a generator which gives a request for 32 bytes these bytes, and no others, answers as over them
+pub drawn_seed : {S A : Type 0} (fault : Option Fault) (gives : S → ℕ → List ℕ → S → Type 0) (refuses : S → ℕ → S → Type 0) (before after : S) (refusal : Fault) (seed : List ℕ)
+    (answer : List ℕ → Result A Fault) (result : Result A Fault) → ((bytes : List ℕ) → gives before 32 bytes after → bytes ≡ seed) → (refuses before 32 after → ⊥)
+    → ((f : Fault) → fault ≡ Some f → answer seed ≡ Err f) → DrawsUnless fault gives refuses before after refusal answer result → result ≡ answer seed
+drawn_seed None gives refuses before after refusal seed answer result one never first (inl (bytes, given, size, is)) = is ∙ ap answer (one bytes given)
+drawn_seed None gives refuses before after refusal seed answer result one never first (inr (refused, is)) = absurd (never refused)
+drawn_seed (Some f) gives refuses before after refusal seed answer result one never first (same, is) = is ∙ sym (first f refl)

@@ -17,7 +17,7 @@ use Rattle.fips204.specs.Refusals.{refused_or, input_fault}
 use Rattle.fips204.specs.Sets.{HasSizes, set_of}
 use Rattle.fips204.specs.Signing.{response, hint_vector, passes_checks}
 use Rattle.fips204.specs.declared.types.Params.{Params}
-use Rattle.fips204.specs.declared.types.prepared.KeyTransforms.{KeyTransforms}
+use Rattle.fips204.specs.declared.keys.prepared.KeyTransforms.{KeyTransforms}
 
 -- both keys by their seeds and vectors; tr is the hash of the public key's bytes
 abbrev pub pair_of : (List ℕ → List ℕ) → List ℕ → List ℕ → List R → List R → List R → List R → PublicParts × PrivateParts

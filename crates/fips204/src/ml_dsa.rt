@@ -1,13 +1,11 @@
 //! What the parameter sets share (FIPS 204, sections 5 and 6).
 #![tactic(auto)]
 
-mod attempt;
 mod commitment_hash;
 mod decoding;
 mod framing;
 mod key_generation;
 mod matrix_bytes;
-mod rejection;
 mod signing;
 mod verification;
 mod whole;

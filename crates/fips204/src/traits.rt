@@ -5,15 +5,12 @@
 ghost use Rattle.std.specs.Prelude.{◌≡◌, ◌≢◌, ◌↔◌, ℕ, List, length, Result, Ok, Err, Some, None, true, IfOk, IsTrue};
 ghost use Rattle.std.specs.Prelude.{MatchResult};
 ghost use Rattle.fips204_base.specs.declared.fault.Fault.{Fault};
-ghost use Rattle.fips204_base.specs.declared.fault.Fault.TheVariants.{KeyGenRng, SignRng, HashRng, InternalRng};
+ghost use Rattle.fips204_base.specs.declared.fault.Fault.TheVariants.{KeyGenRng, SignRng, HashRng};
 ghost use Rattle.fips204.specs.Completeness.{AcceptedIfWhole, DecodesAlone};
 ghost use Rattle.fips204.specs.Framing.{plain, hashed};
 ghost use Rattle.fips204.specs.Framing as definition;
-ghost use Rattle.fips204.specs.Inputs.{input_of};
-ghost use Rattle.fips204.specs.Refusals.{Draws, DrawsUnless, DrawsIf, input_fault};
+ghost use Rattle.fips204.specs.Refusals.{Draws, DrawsUnless, input_fault};
 
-use crate::input::Input;
-use crate::ml_dsa::check_input;
 use fips204_base::Fault;
 
 /// The error of a generator that returned no bytes.
@@ -74,35 +71,6 @@ pub(crate) fn draw<R: CryptoRngCore>(rng: &mut R, refusal: Fault) -> Result<[u8;
     }
 }
 
-/// The random bytes of a signing hook: 32 zeros without `hedged`; with it, 32 bytes drawn from the generator,
-/// or `Fault::InternalRng` if that fails.
-pub(crate) fn draw_if<R: CryptoRngCore>(hedged: bool, rng: &mut R) -> Result<[u8; 32], Fault>
-    ensures { DrawsIf hedged R.gives R.refuses rng.old rng.new InternalRng Ok result }
-{
-    if hedged {
-        draw(rng, Fault::InternalRng)
-    } else {
-        Ok([0; 32])
-    }
-}
-
-/// Signs an input with 32 random bytes of the generator, which is asked once, and not for an input that is rejected.
-/// Returns `refusal` if the generator fails.
-fn sign_drawn<K: Signer, R: CryptoRngCore>(
-    key: &K,
-    rng: &mut R,
-    input: &Input<'_>,
-    refusal: Fault,
-) -> Result<K::Signature, Fault>
-    ensures answer { DrawsUnless (input_fault (input_of input.now)) R.gives R.refuses rng.old rng.new refusal
-        (λ rnd. K.signs key.now rnd (input_of input.now)) result }
-    ensures accepted { AcceptedIfWhole (K.whole key.now) (K.derives key.now)
-        (λ pk signature. K.PublicKey.accepts pk signature (input_of input.now)) result }
-{
-    check_input(input)?;
-    key.sign_input(&draw(rng, refusal)?, input)
-}
-
 /// Key generation (FIPS 204, Algorithm 1). The private key of a pair is consistent, the public key is the one that is
 /// derived from it, and each is what decoding its bytes returns. So what the private key signs, also after it was
 /// stored, is accepted by the public key, also after it was stored.
@@ -137,7 +105,7 @@ pub trait KeyGen {
             × DecodesAlone Self.PrivateKey.decodes (Self.PrivateKey.bytes_of sk) sk) };
 }
 
-/// Signing (FIPS 204, Algorithms 2 and 4), with a plain or a prepared key.
+/// Signing (FIPS 204, Algorithms 2 and 4).
 pub trait Signer {
     /// The byte array of a signature.
     type Signature;
@@ -155,39 +123,12 @@ pub trait Signer {
     // Whether the key is consistent.
     ghost whole: { Self → Type 0 };
 
-    /// Signs an input with the random bytes `seed`; 32 zeros give the deterministic variant.
-    ///
-    /// Errors: those of a message and of a digest, as the calls below say, for these inputs; then
-    /// `Fault::SamplingLimit` and `Fault::TooManyAttempts` as for `try_sign_with_seed`.
-    fn sign_input(&self, seed: &[u8; 32], input: &Input<'_>) -> Result<Self::Signature, Fault>
-        ensures answer { result ≡ signs self.now seed.now (input_of input.now) }
-        ensures accepted { AcceptedIfWhole (whole self.now) (derives self.now)
-            (λ pk signature. Self.PublicKey.accepts pk signature (input_of input.now)) result };
-
-    /// Signs an input. The 32 random bytes are zeros without `hedged`; with it they are drawn from the generator, which
-    /// is asked once.
-    ///
-    /// Errors: `Fault::InternalRng` if the generator fails; then those of `sign_input`.
-    final fn sign_input_with_rng<R: CryptoRngCore>(
-        &self,
-        rng: &mut R,
-        input: &Input<'_>,
-        hedged: bool,
-    ) -> Result<Self::Signature, Fault>
-        ensures answer { DrawsIf hedged R.gives R.refuses rng.old rng.new InternalRng
-            (λ rnd. signs self.now rnd (input_of input.now)) result }
-        ensures accepted { AcceptedIfWhole (whole self.now) (derives self.now)
-            (λ pk signature. Self.PublicKey.accepts pk signature (input_of input.now)) result }
-    {
-        self.sign_input(&draw_if(hedged, rng)?, input)
-    }
-
     /// Signs a message (Algorithm 2) with 32 random bytes of the generator, which is asked once.
     ///
     /// Errors, in this order: `Fault::SignCtx` if `ctx` has more than 255 bytes (the generator is then not
     /// asked); `Fault::SignRng` if the generator fails; then `Fault::SamplingLimit` and
     /// `Fault::TooManyAttempts` as for `try_sign_with_seed`.
-    final fn try_sign_with_rng<R: CryptoRngCore>(
+    fn try_sign_with_rng<R: CryptoRngCore>(
         &self,
         rng: &mut R,
         message: &[u8],
@@ -196,16 +137,13 @@ pub trait Signer {
         ensures answer { DrawsUnless (input_fault (plain message.now ctx.now)) R.gives R.refuses rng.old rng.new SignRng
             (λ rnd. signs self.now rnd (plain message.now ctx.now)) result }
         ensures accepted { AcceptedIfWhole (whole self.now) (derives self.now)
-            (λ pk signature. Self.PublicKey.accepts pk signature (plain message.now ctx.now)) result }
-    {
-        sign_drawn(self, rng, &Input::Message(message, ctx), Fault::SignRng)
-    }
+            (λ pk signature. Self.PublicKey.accepts pk signature (plain message.now ctx.now)) result };
 
     /// Signs a message (Algorithm 2) with the random bytes `seed`; 32 zeros give the deterministic variant.
     ///
     /// Errors: `Fault::SignCtx` if `ctx` has more than 255 bytes; `Fault::SamplingLimit` if rejection
     /// sampling reaches its limit; `Fault::TooManyAttempts` if all 814 attempts are rejected.
-    final fn try_sign_with_seed(
+    fn try_sign_with_seed(
         &self,
         seed: &[u8; 32],
         message: &[u8],
@@ -213,10 +151,7 @@ pub trait Signer {
     ) -> Result<Self::Signature, Fault>
         ensures answer { result ≡ signs self.now seed.now (plain message.now ctx.now) }
         ensures accepted { AcceptedIfWhole (whole self.now) (derives self.now)
-            (λ pk signature. Self.PublicKey.accepts pk signature (plain message.now ctx.now)) result }
-    {
-        self.sign_input(seed, &Input::Message(message, ctx))
-    }
+            (λ pk signature. Self.PublicKey.accepts pk signature (plain message.now ctx.now)) result };
 
     /// Signs a digest (Algorithm 4) with 32 random bytes of the generator, which is asked once. `hash_oid` is
     /// the DER object identifier of the hash function.
@@ -224,7 +159,7 @@ pub trait Signer {
     /// Errors, in this order: `Fault::HashCtx` if `ctx` has more than 255 bytes; those of `check_pre_hash`
     /// (in both cases the generator is not asked); `Fault::HashRng` if the generator fails; then
     /// `Fault::SamplingLimit` and `Fault::TooManyAttempts` as for `try_sign_with_seed`.
-    final fn try_hash_sign_with_rng<R: CryptoRngCore>(
+    fn try_hash_sign_with_rng<R: CryptoRngCore>(
         &self,
         rng: &mut R,
         hash: &[u8],
@@ -234,21 +169,13 @@ pub trait Signer {
         ensures answer { DrawsUnless (input_fault (hashed hash.now ctx.now hash_oid.now)) R.gives R.refuses
             rng.old rng.new HashRng (λ rnd. signs self.now rnd (hashed hash.now ctx.now hash_oid.now)) result }
         ensures accepted { AcceptedIfWhole (whole self.now) (derives self.now)
-            (λ pk signature. Self.PublicKey.accepts pk signature (hashed hash.now ctx.now hash_oid.now)) result }
-    {
-        sign_drawn(
-            self,
-            rng,
-            &Input::Digest(hash, ctx, hash_oid),
-            Fault::HashRng,
-        )
-    }
+            (λ pk signature. Self.PublicKey.accepts pk signature (hashed hash.now ctx.now hash_oid.now)) result };
 
     /// Signs a digest (Algorithm 4) with the random bytes `seed`.
     ///
     /// Errors, in this order: `Fault::HashCtx` if `ctx` has more than 255 bytes; those of `check_pre_hash`;
     /// then `Fault::SamplingLimit` and `Fault::TooManyAttempts` as for `try_sign_with_seed`.
-    final fn try_hash_sign_with_seed(
+    fn try_hash_sign_with_seed(
         &self,
         seed: &[u8; 32],
         hash: &[u8],
@@ -257,10 +184,7 @@ pub trait Signer {
     ) -> Result<Self::Signature, Fault>
         ensures answer { result ≡ signs self.now seed.now (hashed hash.now ctx.now hash_oid.now) }
         ensures accepted { AcceptedIfWhole (whole self.now) (derives self.now)
-            (λ pk signature. Self.PublicKey.accepts pk signature (hashed hash.now ctx.now hash_oid.now)) result }
-    {
-        self.sign_input(seed, &Input::Digest(hash, ctx, hash_oid))
-    }
+            (λ pk signature. Self.PublicKey.accepts pk signature (hashed hash.now ctx.now hash_oid.now)) result };
 
     /// Computes the public key of the private key: its `rho` and `tr`, with t1 as in Algorithm 6.
     ///
@@ -273,7 +197,7 @@ pub trait Signer {
         → input_fault input ≡ Some fault → signs key rnd input ≡ Err fault };
 }
 
-/// Verifying (FIPS 204, Algorithms 3 and 5), with a plain or a prepared key.
+/// Verifying (FIPS 204, Algorithms 3 and 5).
 pub trait Verifier {
     /// The byte array of a signature.
     type Signature;
@@ -281,30 +205,20 @@ pub trait Verifier {
     // Whether the key accepts a signature of an input.
     ghost accepts: { Self → Self.Signature → definition.Input → Type 0 };
 
-    /// Verifies the signature of an input. Returns false if the input is rejected.
-    fn accepts_input(&self, input: &Input<'_>, signature: &Self::Signature) -> bool
-        ensures { IsTrue result ↔ accepts self.now signature.now (input_of input.now) };
-
     /// Verifies the signature of a message (Algorithm 3). Returns false if `ctx` has more than 255 bytes.
-    final fn verify(&self, message: &[u8], signature: &Self::Signature, ctx: &[u8]) -> bool
-        ensures { IsTrue result ↔ accepts self.now signature.now (plain message.now ctx.now) }
-    {
-        self.accepts_input(&Input::Message(message, ctx), signature)
-    }
+    fn verify(&self, message: &[u8], signature: &Self::Signature, ctx: &[u8]) -> bool
+        ensures { IsTrue result ↔ accepts self.now signature.now (plain message.now ctx.now) };
 
     /// Verifies the signature of a digest (Algorithm 5). Returns false if `ctx` has more than 255 bytes, or
     /// if `check_pre_hash` returns an error.
-    final fn hash_verify(
+    fn hash_verify(
         &self,
         hash: &[u8],
         signature: &Self::Signature,
         ctx: &[u8],
         hash_oid: &[u8],
     ) -> bool
-        ensures { IsTrue result ↔ accepts self.now signature.now (hashed hash.now ctx.now hash_oid.now) }
-    {
-        self.accepts_input(&Input::Digest(hash, ctx, hash_oid), signature)
-    }
+        ensures { IsTrue result ↔ accepts self.now signature.now (hashed hash.now ctx.now hash_oid.now) };
 
     // An input that breaks a condition is accepted by no key.
     ghost unbroken: { (key : Self) (signature : Self.Signature) (input : definition.Input)

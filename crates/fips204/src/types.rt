@@ -1,20 +1,17 @@
-//! Polynomials, and keys as values.
+//! Polynomials, the numbers of each parameter set, and by name the keys.
 #![tactic(auto)]
 
-ghost use Rattle.std.specs.Prelude.{◌≡◌, ◌≤◌, ◌-◌, ◌*◌, ◌/◌, ⊤, pos, nat_abs, IsTrue};
-ghost use Rattle.fips204_base.specs.Encodings.{ArePublicParts};
+ghost use Rattle.std.specs.Prelude.{◌≡◌, ◌≤◌, ◌-◌, ◌*◌, ◌/◌, pos, nat_abs, IsTrue};
 ghost use Rattle.fips204_base.specs.Packing.{width};
 ghost use Rattle.fips204_base.specs.Rounding.{high_count};
 ghost use Rattle.fips204.specs.Rows.{are_parameters};
 
 pub mod pre_hash;
-mod prepared;
 
+pub(crate) use crate::keys::KeyTransforms;
+pub use crate::keys::{PreparedPrivateKey, PreparedPublicKey, PrivateKey, PublicKey};
 pub use fips204_base::types::{R, R0, T, T0, Zq};
-pub(crate) use prepared::KeyTransforms;
-pub use prepared::{PreparedPrivateKey, PreparedPublicKey};
-use std::alloc::AllocError;
-use std::marker::{Model, PhantomData};
+use std::marker::PhantomData;
 
 /// The numbers of a parameter set (FIPS 204, Tables 1 and 2): those of one of the three sets.
 #[derive(Clone, Copy, Debug, PartialEq, Eq)]
@@ -113,87 +110,3 @@ pub const ML_DSA_87: Params = Params {
 
 /// Key generation of the parameter set with a matrix of `K` rows and `L` columns, over the XOFs `H` and `G`.
 pub struct KG<const K: usize, const L: usize, H, G>(PhantomData<(H, G)>);
-
-/// A public key of a parameter set with a matrix of `K` rows and `L` columns, over the XOFs `H` and `G`.
-///
-/// Contracts see it as its parts: the matrix's seed `rho`, the hash `tr` of its bytes, and `t1`, `K`
-/// polynomials with coefficients from 0 to 1023.
-#[derive(Drop)]
-pub struct PublicKey<const K: usize, const L: usize, H, G> {
-    pub(crate) rho: [u8; 32],
-    pub(crate) tr: [u8; 64],
-    pub(crate) t1: [R; K],
-    pub(crate) streams: PhantomData<(H, G)>,
-}
-
-impl<const K: usize, const L: usize, H, G> Model for PublicKey<K, L, H, G> {
-    ghost use Rattle.fips204_base.specs.Encodings.{PublicParts, ArePublicParts};
-
-    ghost Value = { PublicParts };
-
-    ghost view = { λ key. record { rho = key.rho; tr = key.tr; t1 = key.t1 } };
-
-    ghost invariant = { λ key. ArePublicParts K record { rho = key.rho; tr = key.tr; t1 = key.t1 } };
-}
-
-impl<const K: usize, const L: usize, H, G> Clone for PublicKey<K, L, H, G> {
-    ghost is_clone = { λ x y. y ≡ x };
-
-    ghost is_infallible = { λ _. ⊤ };
-
-    /// A copy of the key. Never returns an error.
-    fn clone(&self) -> Result<Self, AllocError> {
-        Ok(PublicKey { ..*self })
-    }
-}
-
-impl<const K: usize, const L: usize, H, G> PublicKey<K, L, H, G> {
-    /// The hash of the key's bytes (64 bytes of `H`), which signing and verifying hash before the message. The
-    /// key's parts are in range.
-    pub fn tr(&self) -> &[u8; 64]
-        ensures hash { result.now ≡ self.now.tr }
-        ensures parts { ArePublicParts K self.now }
-    {
-        &self.tr
-    }
-}
-
-/// A private key of a parameter set with a matrix of `K` rows and `L` columns, over the XOFs `H` and `G`.
-///
-/// Contracts see it as its parts: the matrix's seed `rho`, the seed `key` of the masks, the hash `tr` of
-/// the public key's bytes, the vectors `s1` of `L` and `s2` of `K` polynomials with coefficients in
-/// `[-eta, eta]`, and `t0`, `K` polynomials with coefficients in `[-4095, 4096]`.
-#[derive(Drop)]
-pub struct PrivateKey<const K: usize, const L: usize, H, G> {
-    pub(crate) rho: [u8; 32],
-    pub(crate) cap_k: [u8; 32],
-    pub(crate) tr: [u8; 64],
-    pub(crate) s1: [R; L],
-    pub(crate) s2: [R; K],
-    pub(crate) t0: [R; K],
-    pub(crate) streams: PhantomData<(H, G)>,
-}
-
-impl<const K: usize, const L: usize, H, G> Model for PrivateKey<K, L, H, G> {
-    ghost use Rattle.std.specs.Prelude.{nat_eq, if◌then◌else◌};
-    ghost use Rattle.fips204_base.specs.Encodings.{PrivateParts, ArePrivateParts};
-
-    ghost Value = { PrivateParts };
-
-    ghost view = { λ sk. record { rho = sk.rho; key = sk.cap_k; tr = sk.tr; s1 = sk.s1; s2 = sk.s2; t0 = sk.t0 } };
-
-    // eta is 4 in ML-DSA-65, the parameter set with 6 rows, and 2 in the others.
-    ghost invariant = { λ sk. ArePrivateParts (if nat_eq K 6 then 4 else 2) K L
-        record { rho = sk.rho; key = sk.cap_k; tr = sk.tr; s1 = sk.s1; s2 = sk.s2; t0 = sk.t0 } };
-}
-
-impl<const K: usize, const L: usize, H, G> Clone for PrivateKey<K, L, H, G> {
-    ghost is_clone = { λ x y. y ≡ x };
-
-    ghost is_infallible = { λ _. ⊤ };
-
-    /// A copy of the key. Never returns an error.
-    fn clone(&self) -> Result<Self, AllocError> {
-        Ok(PrivateKey { ..*self })
-    }
-}

@@ -1,18 +1,18 @@
 -- Keys and signatures as bytes, and their parts, which the bytes determine.
-use Rattle.std.proofs.Common.{w32, to_z, of_z, ◌≡◌, ℕ, List, [], ◌∷◌, ℤ, pos, length, refl, ap, ◌∙◌, arith, ◌+◌, ◌*◌, ◌++◌, nat_abs, take, drop, sym, append_assoc, length-append, ◌-◌, ◌^◌, ◌+ℤ◌, ◌-ℤ◌, ◌≤◌}
+use Rattle.std.proofs.Common.{w32, to_z, of_z, ◌≡◌, ℕ, List, ℤ, pos, length, refl, ap, ◌∙◌, arith, ◌+◌, ◌*◌, ◌++◌, nat_abs, take, drop, sym, append_assoc, length-append, length-drop, ◌-◌, ◌^◌, ◌+ℤ◌, ◌-ℤ◌, ◌≤◌}
 use Rattle.std.specs.List.{All}
 use Rattle.std.proofs.lemmas.Int.{ints}
-use Rattle.std.proofs.lemmas.List.Elements.{All-head, All-tail}
 use Rattle.fips204_base.specs.declared.types.R.{R}
 use Rattle.fips204_base.specs.Encodings.{PrivateParts, public_key_bytes, IsPrivateKeyOf, vector_bytes, IsSignature, Spells, hint_bytes}
 use Rattle.fips204_base.specs.Bounds.{IsEta, IsGamma1, PolynomialInRange, Bounds}
 use Rattle.fips204_base.specs.Packing.{polynomial_bytes, bit_length, width}
 use Rattle.fips204_base.proofs.Bits.{cut}
 use Rattle.fips204_base.proofs.Packing.{length-polynomial_bytes, same_polynomial}
-use Rattle.std.proofs.lemmas.List.{take_all, take_at, drop_at}
+use Rattle.std.proofs.lemmas.List.{take_all, take_at, drop_at, drop-drop, length-take-le}
 use Rattle.std.proofs.Math.Seq.{take-add}
 use Rattle.fips204_base.specs.Vectors.{IsVector}
-use Rattle.fips204_base.proofs.VectorBytes.{vector-length}
+use Rattle.fips204_base.proofs.Pieces.{same_pieces}
+use Rattle.fips204_base.proofs.VectorBytes.{IsPolynomial, packed, vector-length}
 use Rattle.fips204_base.proofs.HintSpelling.{one_hint}
 use Rattle.std.proofs.lemmas.Grind.{common_steps}
 
@@ -36,42 +36,54 @@ eta_bounds eta set = (omega (arith, ints, set), omega (arith, ints, set), omega 
 pub eta_width : (eta : ℤ) → IsEta eta → width eta eta ≡ width (pos (nat_abs eta)) (pos (nat_abs eta))
 eta_width eta set = grind (arith, ints, common_steps)
 
--- the three seeds of the first 128 bytes
-pub three_seeds : (s : List ℕ) → length s ≡ 128 → take 32 (drop 0 s) ++ take 32 (drop 32 s) ++ take 64 (drop 64 s) ≡ s
-three_seeds s size = ap (λ x. x ++ take 64 (drop 64 s)) (sym (take-add 32 32 s)) ∙ sym (take-add 64 64 s) ∙ take_all 128 s (omega (arith, size))
-
 in_a_row : (a b c d e f : List ℕ) → a ++ b ++ c ++ d ++ e ++ f ≡ a ++ (b ++ (c ++ (d ++ (e ++ f))))
 in_a_row a b c d e f = simp append_assoc
 
-pub private_key-of_parts : (eta k l : ℕ) (bytes rho key tr first second low : List ℕ) (s1 s2 t0 : List R) → bytes ≡ (rho ++ key ++ tr) ++ (first ++ (second ++ low))
-    → length rho ≡ 32 → length key ≡ 32 → length tr ≡ 64 → IsVector l eta eta s1 → IsVector k eta eta s2 → IsVector k 4095 4096 t0
-    → vector_bytes eta eta s1 ≡ first → vector_bytes eta eta s2 ≡ second → vector_bytes 4095 4096 t0 ≡ low
-    → IsPrivateKeyOf eta k l bytes record { rho = rho; key = key; tr = tr; s1 = s1; s2 = s2; t0 = t0 }
-private_key-of_parts eta k l bytes rho key tr first second low s1 s2 t0 cut a b c u v w p q r = grind (arith, ints, common_steps, in_a_row, cut, append_assoc)
+-- the first n bytes, and those after them
+pub part : (n : ℕ) (bytes a rest : List ℕ) → bytes ≡ a ++ rest → length a ≡ n → (take n bytes ≡ a) × (drop n bytes ≡ rest)
+part n bytes a rest e size = (ap (take n) e ∙ take_at a rest n size, ap (drop n) e ∙ drop_at a rest n size)
 
-private_key-vectors : (eta k l : ℕ) (bytes : List ℕ) (sk : PrivateParts) → IsPrivateKeyOf eta k l bytes sk
-    → drop 128 bytes ≡ vector_bytes eta eta sk.s1 ++ (vector_bytes eta eta sk.s2 ++ vector_bytes 4095 4096 sk.t0)
-private_key-vectors eta k l bytes sk s =
-    let S1 = vector_bytes eta eta sk.s1 in
-    let S2 = vector_bytes eta eta sk.s2 in
-    let T0 = vector_bytes 4095 4096 sk.t0 in
-    let row : bytes ≡ (sk.rho ++ sk.key ++ sk.tr) ++ (S1 ++ (S2 ++ T0)) = sym s.encoding ∙ simp append_assoc in
-    let size : length (sk.rho ++ sk.key ++ sk.tr) ≡ 128 = simp length-append (omega (arith, s.parts.rho, s.parts.key, s.parts.tr)) in
-    ap (drop 128) row ∙ drop_at (sk.rho ++ sk.key ++ sk.tr) (S1 ++ (S2 ++ T0)) 128 size
+-- where the parts of a private key are in its bytes
+pub record PrivateCut (eta k l : ℕ) (bytes : List ℕ) (sk : PrivateParts) : Type 0 where
+  pub rho : take 32 bytes ≡ sk.rho
+  pub key : take 32 (drop 32 bytes) ≡ sk.key
+  pub tr : take 64 (drop 64 bytes) ≡ sk.tr
+  pub s1 : take (32 * width (pos eta) (pos eta) * l) (drop 128 bytes) ≡ vector_bytes eta eta sk.s1
+  pub s2 : take (32 * width (pos eta) (pos eta) * k) (drop (32 * width (pos eta) (pos eta) * l) (drop 128 bytes)) ≡ vector_bytes eta eta sk.s2
+  pub t0 : drop (32 * width (pos eta) (pos eta) * k) (drop (32 * width (pos eta) (pos eta) * l) (drop 128 bytes)) ≡ vector_bytes 4095 4096 sk.t0
 
--- the bytes of s1, and of s2
-pub private_key-first : (eta k l a : ℕ) (bytes : List ℕ) (sk : PrivateParts) → IsPrivateKeyOf eta k l bytes sk → a ≡ 32 * width (pos eta) (pos eta) * l
-    → vector_bytes eta eta sk.s1 ≡ take a (drop 128 bytes)
-private_key-first eta k l a bytes sk s e =
-    sym (ap (take a) (private_key-vectors eta k l bytes sk s)
-    ∙ take_at (vector_bytes eta eta sk.s1) (vector_bytes eta eta sk.s2 ++ vector_bytes 4095 4096 sk.t0) a (vector-length l eta eta sk.s1 s.parts.s1 ∙ sym e))
+pub private_key_cut : (eta k l : ℕ) (bytes : List ℕ) (sk : PrivateParts) → IsPrivateKeyOf eta k l bytes sk → PrivateCut eta k l bytes sk
+private_key_cut eta k l bytes sk s =
+    let s1 = vector_bytes eta eta sk.s1 in
+    let s2 = vector_bytes eta eta sk.s2 in
+    let t0 = vector_bytes 4095 4096 sk.t0 in
+    let rho = part 32 bytes sk.rho _ (sym s.encoding ∙ in_a_row sk.rho sk.key sk.tr s1 s2 t0) s.parts.rho in
+    let key = part 32 (drop 32 bytes) sk.key _ rho.1 s.parts.key in
+    let tr = part 64 (drop 64 bytes) sk.tr _ (sym (drop-drop 32 32 bytes) ∙ key.1) s.parts.tr in
+    let first = part (32 * width (pos eta) (pos eta) * l) (drop 128 bytes) s1 _ (sym (drop-drop 64 64 bytes) ∙ tr.1) (vector-length l eta eta sk.s1 s.parts.s1) in
+    let second = part (32 * width (pos eta) (pos eta) * k) (drop (32 * width (pos eta) (pos eta) * l) (drop 128 bytes)) s2 _ first.1 (vector-length k eta eta sk.s2 s.parts.s2) in
+    record { rho = rho.0; key = key.0; tr = tr.0; s1 = first.0; s2 = second.0; t0 = second.1 }
 
-pub private_key-second : (eta k l a b : ℕ) (bytes : List ℕ) (sk : PrivateParts) → IsPrivateKeyOf eta k l bytes sk → a ≡ 32 * width (pos eta) (pos eta) * l
-    → b ≡ 32 * width (pos eta) (pos eta) * k → vector_bytes eta eta sk.s2 ≡ take b (drop a (drop 128 bytes))
-private_key-second eta k l a b bytes sk s e f =
-    sym (ap (λ x. take b (drop a x)) (private_key-vectors eta k l bytes sk s)
-    ∙ ap (take b) (drop_at (vector_bytes eta eta sk.s1) (vector_bytes eta eta sk.s2 ++ vector_bytes 4095 4096 sk.t0) a (vector-length l eta eta sk.s1 s.parts.s1 ∙ sym e))
-    ∙ take_at (vector_bytes eta eta sk.s2) (vector_bytes 4095 4096 sk.t0) b (vector-length k eta eta sk.s2 s.parts.s2 ∙ sym f))
+-- a private key from 128 bytes and the vectors of those after them
+pub private_key_joined : (eta k l : ℕ) (bytes seeds first second low : List ℕ) (s1 s2 t0 : List R) → bytes ≡ seeds ++ (first ++ (second ++ low)) → length seeds ≡ 128
+    → IsVector l eta eta s1 → IsVector k eta eta s2 → IsVector k 4095 4096 t0 → vector_bytes eta eta s1 ≡ first → vector_bytes eta eta s2 ≡ second → vector_bytes 4095 4096 t0 ≡ low
+    → IsPrivateKeyOf eta k l bytes record { rho = take 32 (drop 0 seeds); key = take 32 (drop 32 seeds); tr = take 64 (drop 64 seeds); s1 = s1; s2 = s2; t0 = t0 }
+private_key_joined eta k l bytes seeds first second low s1 s2 t0 whole size u v w p q r =
+    let rho = take 32 (drop 0 seeds) in
+    let key = take 32 (drop 32 seeds) in
+    let tr = take 64 (drop 64 seeds) in
+    let front : rho ++ key ++ tr ≡ seeds = ap (λ x. x ++ tr) (sym (take-add 32 32 seeds)) ∙ sym (take-add 64 64 seeds) ∙ take_all 128 seeds (omega (arith, size)) in
+    record {
+      parts = record {
+        rho = length-take-le 32 (drop 0 seeds) (omega (arith, size));
+        key = length-take-le 32 (drop 32 seeds) (omega (arith, size, length-drop 32 seeds));
+        tr = length-take-le 64 (drop 64 seeds) (omega (arith, size, length-drop 64 seeds));
+        s1 = u;
+        s2 = v;
+        t0 = w;
+      };
+      encoding = rw (front, p, q, r) (append_assoc (seeds ++ first) second low ∙ append_assoc seeds first (second ++ low) ∙ sym whole);
+    }
 
 -- The parts of a signature.
 
@@ -124,27 +136,10 @@ same_row a b v w bounds m n p q e =
     let lists = same_polynomial (pos a) (pos b) v.0 w.0 (omega (arith, ints), omega (arith, ints, bounds), omega (arith, ints, bounds), omega (arith, ints, bounds)) p q m n e in
     ap (λ (l : List ℤ). let r : R = record { 0 = l } in r) lists
 
-rest_of_vector : (n a b : ℕ) (w : R) (v : List R) → IsVector n a b (w ∷ v) → IsVector (length v) a b v
-rest_of_vector n a b w v h = record {
-  rows = refl;
-  places = All-tail (λ (w : R). length w.0 ≡ 256) w v h.places;
-  range = All-tail (λ (w : R). PolynomialInRange (pos 0 -ℤ pos a) (pos b) w.0) w v h.range;
-}
-
 pub same_vector : (n m a b : ℕ) (v w : List R) → AreBounds a b → length v ≡ length w → IsVector n a b v → IsVector m a b w → vector_bytes a b v ≡ vector_bytes a b w → v ≡ w
-same_vector n m a b [] [] bounds l p q e = refl
-same_vector n m a b [] (y ∷ w) bounds l p q e = absurd (omega (arith, l))
-same_vector n m a b (x ∷ v) [] bounds l p q e = absurd (omega (arith, l))
-same_vector n m a b (x ∷ v) (y ∷ w) bounds l p q e =
-    let f = λ (r : R). polynomial_bytes (pos a) (pos b) r.0 in
-    let Places = λ (r : R). length r.0 ≡ 256 in
-    let Range = λ (r : R). PolynomialInRange (pos 0 -ℤ pos a) (pos b) r.0 in
-    let i = All-head Places x v p.places in
-    let j = All-head Places y w q.places in
-    let both = cut (f x) (f y) (vector_bytes a b v) (vector_bytes a b w) (32 * width (pos a) (pos b)) (length-polynomial_bytes (pos a) (pos b) x.0 i) (length-polynomial_bytes (pos a) (pos b) y.0 j) e in
-    let head = same_row a b x y bounds i j (All-head Range x v p.range) (All-head Range y w q.range) both.0 in
-    let tail = same_vector (length v) (length w) a b v w bounds (omega (arith, l)) (rest_of_vector n a b x v p) (rest_of_vector m a b y w q) both.1 in
-    cc
+same_vector n m a b v w bounds l p q =
+    same_pieces (IsPolynomial (pos a) (pos b)) (packed (pos a) (pos b)) (32 * width (pos a) (pos b)) v w (λ x is. length-polynomial_bytes (pos a) (pos b) x.0 is.1)
+    (λ x y i j. same_row a b x y bounds i.1 j.1 i.0 j.0) l (λ i d h. (p.range i d h, p.places i d h)) (λ i d h. (q.range i d h, q.places i d h))
 
 -- ---- public keys
 
@@ -176,21 +171,12 @@ same_signature gamma1 omega' k l n bytes c d z y g h low high p q =
 
 pub same_private_key : (eta k l : ℕ) (bytes : List ℕ) (sk other : PrivateParts) → 1 ≤ eta → eta ≤ 1048575 → IsPrivateKeyOf eta k l bytes sk → IsPrivateKeyOf eta k l bytes other → sk ≡ other
 same_private_key eta k l bytes sk other low high p q =
-    let S = λ (key : PrivateParts). vector_bytes eta eta key.s1 in
-    let U = λ (key : PrivateParts). vector_bytes eta eta key.s2 in
-    let T = λ (key : PrivateParts). vector_bytes 4095 4096 key.t0 in
-    let same : sk.rho ++ (sk.key ++ (sk.tr ++ (S sk ++ (U sk ++ T sk)))) ≡ other.rho ++ (other.key ++ (other.tr ++ (S other ++ (U other ++ T other)))) =
-    sym (in_a_row sk.rho sk.key sk.tr (S sk) (U sk) (T sk)) ∙ p.encoding ∙ sym q.encoding ∙ in_a_row other.rho other.key other.tr (S other) (U other) (T other) in
-    let c = 32 * width (pos eta) (pos eta) in
-    let one = cut sk.rho other.rho _ _ 32 p.parts.rho q.parts.rho same in
-    let two = cut sk.key other.key _ _ 32 p.parts.key q.parts.key one.1 in
-    let three = cut sk.tr other.tr _ _ 64 p.parts.tr q.parts.tr two.1 in
-    let four = cut (S sk) (S other) _ _ (c * l) (vector-length l eta eta sk.s1 p.parts.s1) (vector-length l eta eta other.s1 q.parts.s1) three.1 in
-    let five = cut (U sk) (U other) _ _ (c * k) (vector-length k eta eta sk.s2 p.parts.s2) (vector-length k eta eta other.s2 q.parts.s2) four.1 in
-    same_private sk.rho other.rho sk.key other.key sk.tr other.tr sk.s1 other.s1 sk.s2 other.s2 sk.t0 other.t0 one.0 two.0 three.0
-    (same_vector l l eta eta sk.s1 other.s1 (high, low, high) (p.parts.s1.rows ∙ sym q.parts.s1.rows) p.parts.s1 q.parts.s1 four.0)
-    (same_vector k k eta eta sk.s2 other.s2 (high, low, high) (p.parts.s2.rows ∙ sym q.parts.s2.rows) p.parts.s2 q.parts.s2 five.0)
-    (same_vector k k 4095 4096 sk.t0 other.t0 (omega arith, omega arith, omega arith) (p.parts.t0.rows ∙ sym q.parts.t0.rows) p.parts.t0 q.parts.t0 five.1)
+    let one = private_key_cut eta k l bytes sk p in
+    let two = private_key_cut eta k l bytes other q in
+    same_private sk.rho other.rho sk.key other.key sk.tr other.tr sk.s1 other.s1 sk.s2 other.s2 sk.t0 other.t0 (sym one.rho ∙ two.rho) (sym one.key ∙ two.key) (sym one.tr ∙ two.tr)
+    (same_vector l l eta eta sk.s1 other.s1 (high, low, high) (p.parts.s1.rows ∙ sym q.parts.s1.rows) p.parts.s1 q.parts.s1 (sym one.s1 ∙ two.s1))
+    (same_vector k k eta eta sk.s2 other.s2 (high, low, high) (p.parts.s2.rows ∙ sym q.parts.s2.rows) p.parts.s2 q.parts.s2 (sym one.s2 ∙ two.s2))
+    (same_vector k k 4095 4096 sk.t0 other.t0 (omega arith, omega arith, omega arith) (p.parts.t0.rows ∙ sym q.parts.t0.rows) p.parts.t0 q.parts.t0 (sym one.t0 ∙ two.t0))
   where
     same_private : (rho rho' key key' tr tr' : List ℕ) (s1 s1' s2 s2' t0 t0' : List R) → rho ≡ rho' → key ≡ key' → tr ≡ tr' → s1 ≡ s1' → s2 ≡ s2' → t0 ≡ t0'
         → Path PrivateParts record { rho = rho; key = key; tr = tr; s1 = s1; s2 = s2; t0 = t0 } record { rho = rho'; key = key'; tr = tr'; s1 = s1'; s2 = s2'; t0 = t0' }

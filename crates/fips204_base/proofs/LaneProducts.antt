@@ -6,10 +6,10 @@ use Rattle.std.proofs.lemmas.Int.{ints, to_z-of_z, of_z-to_z, to_z_pos, wrapping
 use lib.Signed.{shr_z, mag}
 use borrow.Author.Differences.{up, down, product_is}
 use lib.Lanes.{zip2}
-use mir.Syntax.{wrap_sub, wrap_mul, shl, shr, cast, signed}
+use mir.Syntax.{wrap_sub, wrap_mul, shl, shr, signed}
 use mir.Val.{SFits}
 use borrow.Table.Row.{s_int}
-use borrow.Rule.Simd.Lanes.{act1, act2}
+use borrow.Rule.Simd.Lanes.{act2}
 use Rattle.fips204_base.proofs.Residues.{product_bound, product_fits, wider}
 
 -- ---- one lane
@@ -21,8 +21,8 @@ lowered n = act2 (shr signed) (s_int w64) (s_int w64) (s_int w64) (act2 shl (s_i
 abbrev pub taken : ℕ → ℕ → ℤ → ℕ
 taken F G x =
     act2 wrap_sub (s_int w64) (s_int w64) (s_int w64)
-    (act2 wrap_mul (s_int w64) (s_int w64) (s_int w64) (act1 (cast signed signed w64) (s_int w32) (s_int w64) (of_z w32 x)) F)
-    (act2 wrap_mul (s_int w64) (s_int w64) (s_int w64) (lowered (act2 wrap_mul (s_int w64) (s_int w64) (s_int w64) (act1 (cast signed signed w64) (s_int w32) (s_int w64) (of_z w32 x)) G)) 8380417)
+    (act2 wrap_mul (s_int w64) (s_int w64) (s_int w64) (of_z w64 x) F)
+    (act2 wrap_mul (s_int w64) (s_int w64) (s_int w64) (lowered (act2 wrap_mul (s_int w64) (s_int w64) (s_int w64) (of_z w64 x) G)) 8380417)
 
 -- the number with these bits is 2^32 times the product, reduced
 pub record Taken (x f : ℤ) (n : ℕ) : Type 0 where
@@ -76,7 +76,7 @@ signed_word (negsuc n) u ff e =
     let r : to_z w64 (18446744073709551616 - suc k) ≡ negsuc k = to_z-of_z w64 (negsuc k) (record { sfits = omega (arith, l) }) in
     rw (is, r) (omega (arith, ints))
 
-remainder : (f : ℤ) → (u : ℕ) × (int_rem_euclid f (pos 4294967296) ≡ pos u) × (u < 4294967296)
+pub remainder : (f : ℤ) → (u : ℕ) × (int_rem_euclid f (pos 4294967296) ≡ pos u) × (u < 4294967296)
 remainder (pos n) = (n % 4294967296, refl, omega arith)
 remainder (negsuc n) = (4294967295 - n % 4294967296, refl, omega arith)
 
@@ -127,6 +127,20 @@ same_low x y k e =
     let v = remainder y in
     omega (arith, ints, e, a, b, u.1, u.2, v.1, v.2)
 
+-- the low half of 64 bits, with its sign
+pub wrapped_low : (p : ℤ) → int_rem_euclid p (pos 4294967296) ≡ int_rem_euclid (int_wrap w32 p) (pos 4294967296)
+wrapped_low p = let m = wrapped p in same_low (int_wrap w32 p) p m.0 m.1
+
+pub wrapped_is : (p f : ℤ) → SFits w32 f → int_rem_euclid p (pos 4294967296) ≡ int_rem_euclid f (pos 4294967296) → int_wrap w32 p ≡ f
+wrapped_is p f ff e = wrap_is p ∙ (ap (λ (z : ℤ). to_z w32 (unsigned_abs z)) e ∙ (sym (wrap_is f) ∙ int_wrap_fits w32 f ff))
+
+pub low_of_pair : (p f h : ℤ) → p ≡ h *ℤ pos 4294967296 +ℤ int_rem_euclid f (pos 4294967296) → int_rem_euclid p (pos 4294967296) ≡ int_rem_euclid f (pos 4294967296)
+low_of_pair p f h e =
+    let a = divided p in
+    let u = remainder p in
+    let v = remainder f in
+    omega (arith, ints, e, a, u.1, u.2, v.1, v.2)
+
 high_of_multiple : (r : ℤ) → int_div_euclid (pos 4294967296 *ℤ r) (pos 4294967296) ≡ r
 high_of_multiple r =
     let a = divided (pos 4294967296 *ℤ r) in
@@ -174,10 +188,9 @@ taken_is x f h k F G fx ff fh bound e eF eG =
     let all = spread x f h k e in
     let whole : d ≡ pos 4294967296 *ℤ r = whole_is (x *ℤ f) (x *ℤ h) (x *ℤ k) t m.0 all m.1 in
     let bits3 : n3 ≡ of_z w64 (pos 4294967296 *ℤ r) = sym (of_z-to_z w64 n3 (omega arith)) ∙ ap (of_z w64) (e3 ∙ whole) in
-    let back : to_z w32 (of_z w32 x) ≡ x = to_z-of_z w32 x fx in
     record {
       value = r;
-      is = rw (eF, eG, back, low) bits3;
+      is = rw (eF, eG, low) bits3;
       small = whole_small (x *ℤ f) (t *ℤ pos 8380417) r big tq.1 whole;
       low = t;
       sum = whole_sum (x *ℤ f) (t *ℤ pos 8380417) r whole;
@@ -187,15 +200,12 @@ taken_is x f h k F G fx ff fh bound e eF eG =
 abbrev pub lows : ℕ → List ℕ → List ℕ
 lows n l = zip2 (act2 (shr signed) (s_int w64) (s_int w64) (s_int w64)) (zip2 (act2 shl (s_int w64) (s_int w64) (s_int w64)) l (replicate n 32)) (replicate n 32)
 
-abbrev pub wides : List ℤ → List ℕ
-wides xs = map (act1 (cast signed signed w64) (s_int w32) (s_int w64)) (map (of_z w32) xs)
-
 -- what a clause says the code computes
 abbrev pub row : ℕ → ℕ → ℕ → List ℤ → List ℕ
 row n F G xs =
     zip2 (act2 wrap_sub (s_int w64) (s_int w64) (s_int w64))
-    (zip2 (act2 wrap_mul (s_int w64) (s_int w64) (s_int w64)) (wides xs) (replicate n F))
-    (zip2 (act2 wrap_mul (s_int w64) (s_int w64) (s_int w64)) (lows n (zip2 (act2 wrap_mul (s_int w64) (s_int w64) (s_int w64)) (wides xs) (replicate n G))) (replicate n 8380417))
+    (zip2 (act2 wrap_mul (s_int w64) (s_int w64) (s_int w64)) (map (of_z w64) xs) (replicate n F))
+    (zip2 (act2 wrap_mul (s_int w64) (s_int w64) (s_int w64)) (lows n (zip2 (act2 wrap_mul (s_int w64) (s_int w64) (s_int w64)) (map (of_z w64) xs) (replicate n G))) (replicate n 8380417))
 
 pub row_is : (n F G : ℕ) (xs : List ℤ) → length xs ≡ n → row n F G xs ≡ map (taken F G) xs
 row_is n F G [] e = refl

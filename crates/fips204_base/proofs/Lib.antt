@@ -21,6 +21,7 @@ pub mod Challenges
 pub mod Bits
 pub mod Fields
 pub mod Packing
+pub mod Pieces
 pub mod VectorBytes
 pub mod EncodedParts
 pub mod CounterStreams
@@ -32,3 +33,4 @@ mod WorkedBounds
 mod WorkedBytes
 mod WorkedEncodings
 mod WorkedSamplers
+pub mod Zetas

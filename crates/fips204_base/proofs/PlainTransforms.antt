@@ -1,12 +1,12 @@
 -- What is given by its transforms: the plain polynomials, and what steps over the transforms make of them.
 use Rattle.std.proofs.Common.{◌≡◌, ℕ, ◌<◌, ◌≤◌, ◌+◌, ◌*◌, ◌%◌, ◌^◌, ℤ, pos, List, [], get_or, arith, ap, sym, subst, refl, ◌∙◌, nat_abs}
 use Rattle.fips204_base.proofs.Roots.{inverse_root}
-use Rattle.fips204_base.specs.Bounds.{vector_residues, coefficient_of, VectorWithin}
+use Rattle.fips204_base.specs.Bounds.{row_value, vector_residues, coefficient_of, VectorWithin}
 use Rattle.fips204_base.specs.Residues.{residue, coefficients, IsCongruent}
 use Rattle.fips204_base.specs.Transforms.{transform, inverse_transform, pointwise, product, minus}
 use Rattle.fips204_base.specs.Lanes.{lane}
 use Rattle.fips204_base.specs.Vectors.{vector_coefficients, matrix_product}
-use Rattle.fips204_base.specs.PlainTransforms.{lane_values, plain_vector, factor_values, plain_factor, lanes_value, from_mont, plain_row, row_product, AreSameModQ, multiple}
+use Rattle.fips204_base.specs.PlainTransforms.{lane_values, plain_vector, factor_values, plain_factor, from_mont, plain_row, row_product, AreSameModQ, multiple}
 use Rattle.fips204_base.specs.declared.types.R.{R}
 use Rattle.fips204_base.specs.declared.types.T.{T}
 use Rattle.fips204_base.proofs.Residues.{congruent_of, congruent_sym, congruent_trans, congruent_mod, congruent_refl, congruent_add, congruent_mul, congruent_equal, congruent_equal_mod, residue_below, sum_equal, sum_below-times}
@@ -97,12 +97,21 @@ plain-difference c v before after r n h l made =
     ∙ inverse_of_minus (lane_values before r) z n l
     ∙ rw (plain-at before r n h l, plain-multiple c v z r n h l (λ i p. refl)) refl
 
--- the lanes of w are the sums of the products of a row with those of v
-pub plain-row : (columns : ℕ) (row : List T) (v w : List (List ℤ)) (r n : ℕ) → columns ≤ 8 → r < 8 → n < 256 → ((i : ℕ) → i < 256 → lane_values w r i ≡ lanes_value columns row (get_or v i []) i)
-    → vector_coefficients (plain_vector w) r n ≡ row_product columns (plain_row row) (vector_coefficients (plain_vector v)) n
-plain-row columns row v w r n few h l made =
+-- the lanes of w are the sums of the products of a row with the transforms t
+pub plain-row : (columns : ℕ) (row t : List T) (w : List (List ℤ)) (r n : ℕ) → r < 8 → n < 256 → ((i : ℕ) → i < 256 → lane_values w r i ≡ row_value columns row t i)
+    → vector_coefficients (plain_vector w) r n ≡ row_product columns (plain_row row) (plain_row t) n
+plain-row columns row t w r n h l made =
     plain-at w r n h l
-    ∙ row_of_products columns (lane_values w r) (vector_residues row) (lane_values v) (vector_coefficients (plain_vector v)) made (λ k i j p. plain-transform v k (omega (arith, few, i)) j p) n l
+    ∙ row_of_products columns (lane_values w r) (vector_residues row) (vector_residues t) (plain_row t) made (λ k i j p. own (vector_residues t k) (plain_row t k) (λ i q. refl) j p (residue_below _)) n l
+
+-- the transforms in the lanes of v, one after the other
+pub plain-values : (t : List T) (v : List (List ℤ)) (k n : ℕ) → k < 8 → n < 256 → ((i : ℕ) → i < 256 → vector_residues t k i ≡ lane_values v k i) → plain_row t k n ≡ vector_coefficients (plain_vector v) k n
+plain-values t v k n h l same = inverse_same (vector_residues t k) (lane_values v k) (λ i p. congruent_of (same i p)) n ∙ sym (plain-at v k n h l)
+
+-- vectors that are the same have the same product with a row
+pub row-same : (columns : ℕ) (row v w : ℕ → ℕ → ℕ) (n : ℕ) → ((k j : ℕ) → k < columns → j < 256 → v k j ≡ w k j) → n < 256 → row_product columns row v n ≡ row_product columns row w n
+unfolding row_product
+row-same columns row v w n f l = grind (arith, ints, common_steps, sum_equal, product_same, congruent_refl, congruent_of)
 
 -- a row of the matrix times a vector
 pub matrix-row : (l : ℕ) (a : List (List T)) (v : ℕ → ℕ → ℕ) (r n : ℕ) → matrix_product l a v r n ≡ row_product l (plain_matrix a r) v n

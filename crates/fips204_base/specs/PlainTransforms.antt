@@ -1,7 +1,7 @@
 -- What is given by its transforms, as the plain polynomials that contracts see: cited by no public clause of `fips204`;
 -- nobody has to believe it.
 use Rattle.std.specs.Prelude.{◌≡◌, ℕ, ℤ, List, [], pos, ◌*◌, ◌%◌, ◌<◌, slice_index_or}
-use Rattle.fips204_base.specs.Residues.{coefficients, residue, sum_below}
+use Rattle.fips204_base.specs.Residues.{coefficients, sum_below}
 use Rattle.fips204_base.specs.Transforms.{inverse_transform, product}
 use Rattle.fips204_base.specs.Lanes.{lane, residues}
 use Rattle.fips204_base.specs.Vectors.{polynomial_of, vector_of, vector_coefficients}
@@ -28,10 +28,6 @@ factor_values w n = from_mont (coefficients w n)
 -- the polynomial whose transform has these values in Montgomery form
 abbrev pub plain_factor : List ℤ → R
 plain_factor w = polynomial_of (λ n. pos (inverse_transform (factor_values w) n))
-
--- the sum of the products of a row of l transforms at place n with as many lanes
-abbrev pub lanes_value : ℕ → List T → List ℤ → ℕ → ℕ
-lanes_value l row u n = sum_below l (λ k. vector_residues row k n * residue (lane u k)) % 8380417
 
 -- two vectors are the same modulo q in their first k polynomials
 abbrev pub AreSameModQ : ℕ → List R → List R → Type 0

@@ -13,7 +13,9 @@ mod vectors;
 
 use crate::types::{R, R0};
 pub use private_key::{sk_decode, sk_encode, write_private_key_parts};
-pub use signature::{sig_decode, sig_encode, w1_encode, write_signature, write_signature_parts};
+pub use signature::{
+    sig_decode, sig_encode, w1_encode, write_encoded_signature, write_signature_parts,
+};
 pub(crate) use vectors::polynomial_size;
 use vectors::{write_packed_vector, write_unpacked_vector};
 

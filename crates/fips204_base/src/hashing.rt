@@ -41,14 +41,10 @@ fn write_kept(coefficient: Option<i32>, values: &mut [i32; 256], kept: usize) ->
     }
 }
 
-/// As `write_kept`, with no branch on whether there is a coefficient, which no processor could predict, and which depends on a
-/// secret: where there is none, 0 stands at that place until it is written again.
+/// Like `write_kept`, but without a branch on whether there is a coefficient, because that depends on a secret and no
+/// processor can predict it: if there is none, the place holds 0 until it is written again.
 #[inline(always)]
-fn write_kept_without_branch(
-    coefficient: Option<i32>,
-    values: &mut [i32; 256],
-    kept: usize,
-) -> usize
+fn push_branchless(coefficient: Option<i32>, values: &mut [i32; 256], kept: usize) -> usize
     requires room { kept ≤ 256 }
     ensures count { result ≤ 256 }
     ensures kept { AreKept values.old kept (option_to_list coefficient) values.new result }

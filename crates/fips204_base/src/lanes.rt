@@ -1,19 +1,19 @@
 //! Eight values for the butterflies side by side in lanes, which go through each step at once.
 #![tactic(auto)]
 
-ghost use Rattle.std.specs.Prelude.{◌≡◌, ℕ, ◌<◌, ◌≤◌, ◌+◌, ◌*◌, ◌%◌, ◌≢◌, pos, ◌*ℤ◌, nat_abs, FitsSigned};
-ghost use Rattle.std.specs.Int.{int_rem_euclid, int_div_euclid, w32, w64};
+ghost use Rattle.std.specs.Prelude.{◌≡◌, ℕ, ◌<◌, ◌≤◌, ◌+◌, ◌*◌, ◌%◌, ◌≢◌, pos, ◌+ℤ◌, ◌*ℤ◌, nat_abs, FitsSigned};
+ghost use Rattle.std.specs.Int.{int_rem_euclid, int_div_euclid, int_wrap, w32, w64};
 ghost use Rattle.fips204_base.specs.Residues.{residue, IsCongruent};
 ghost use Rattle.fips204_base.specs.PlainTransforms.{from_mont};
-ghost use Rattle.fips204_base.specs.Lanes.{lane};
+ghost use Rattle.fips204_base.specs.Lanes.{lane, HasQuotient};
 ghost use Rattle.fips204_base.specs.Bounds.{EachLane};
 
 use crate::Q;
 use crate::helpers::count::Count;
 use crate::helpers::residue::Residue;
-use crate::helpers::zeta_table::zeta_mont;
+use crate::helpers::zeta_table::{neg_zeta_words, zeta_words};
 use std::marker::Model;
-use std::simd::{i32x4, i32x8, i64x4};
+use std::simd::{i32x8, i64x4};
 
 /// Eight `i32` lanes. Contracts see the list of them.
 #[derive(Clone, Copy)]
@@ -61,7 +61,7 @@ impl Lanes {
     }
 
     /// The first four lanes, and after them those of `other`.
-    pub(crate) fn beside(self, other: Lanes) -> Lanes
+    pub(crate) fn concat_low(self, other: Lanes) -> Lanes
         ensures first { (j : ℕ) → j < 4 → lane result j ≡ lane self j }
         ensures second { (j : ℕ) → j < 4 → lane result (4 + j) ≡ lane other j }
     {
@@ -71,7 +71,7 @@ impl Lanes {
     }
 
     /// The last four lanes, and after them the first four.
-    pub(crate) fn halves_exchanged(self) -> Lanes
+    pub(crate) fn swap_halves(self) -> Lanes
         ensures { (j : ℕ) → j < 8 → lane result j ≡ lane self ((4 + j) % 8) }
     {
         let [a, b, c, d, e, f, g, h] = self.to_array();
@@ -84,7 +84,7 @@ impl Lanes {
         ensures value { EachLane (λ x y. residue y ≡ from_mont (residue factor) * residue x % 8380417) 8 self result }
         ensures small { (j : ℕ) → j < 8 → nat_abs (lane result j) ≤ 8380416 }
     {
-        mont_products(self, factor)
+        mont_products(self, factor_words(factor))
     }
 
     /// Each lane minus that of other lanes, modulo `q` and below `q` in absolute value, as lanes of both are.
@@ -123,12 +123,12 @@ impl Residue for Lanes {
 
     fn mul_zeta(self, m: usize, meter: &mut Count) -> Lanes {
         meter.products += 1;
-        mont_products(self, zeta_mont(m))
+        mont_products(self, zeta_words(m))
     }
 
     fn mul_neg_zeta(self, m: usize, meter: &mut Count) -> Lanes {
         meter.products += 1;
-        mont_products(self, -zeta_mont(m))
+        mont_products(self, neg_zeta_words(m))
     }
 
     fn reduce(self) -> Lanes {
@@ -138,41 +138,53 @@ impl Residue for Lanes {
 
     fn finish(self) -> Lanes {
         // 8347681 * 2^32 is 16382 modulo q
-        raised(mont_products(self, 16382))
+        add_q_if_negative(mont_products(self, factor_words(16382)))
     }
 }
 
-/// Each lane times the factor and the inverse of `2^32` modulo `q`, below `q` in absolute value.
-fn mont_products(x: Lanes, factor: i32) -> Lanes
-    requires { nat_abs factor ≤ 8380416 }
-    ensures congruent { EachLane (λ x y. IsCongruent (4294967296 * residue y) (residue x * residue factor)) 8 x result }
+/// Each lane times a factor, which comes as its words, and the inverse of `2^32` modulo `q`, below `q` in absolute value.
+fn mont_products(x: Lanes, words: i64) -> Lanes
+    requires factor { nat_abs (int_wrap w32 words) ≤ 8380416 }
+    requires quotient { HasQuotient words }
+    ensures congruent { EachLane (λ x y. IsCongruent (4294967296 * residue y) (residue x * residue (int_wrap w32 words))) 8 x result }
     ensures small { (j : ℕ) → j < 8 → nat_abs (lane result j) ≤ 8380416 }
 {
-    let low = wide_products(x.0.extract::<0, 4>(), factor);
-    let high = wide_products(x.0.extract::<4, 4>(), factor);
-    Lanes(low.shuffle(high, [1, 3, 5, 7, 9, 11, 13, 15]))
+    let word = i64x4::splat(32);
+    let both = pairs(x.0);
+    let even = wide_products((both << word) >> word, words);
+    let odd = wide_products(both >> word, words);
+    Lanes(even.shuffle(odd, [1, 9, 3, 11, 5, 13, 7, 15]))
 }
 
 /// Those products of four lanes, each of them the high half of 64 bits: the odd lanes.
 ///
-/// A wide product of numbers of 32 bits is one instruction. The factor and its product with the inverse of `q` come as
-/// one number of 64 bits, of which both halves are used: so the compiler still knows, where a loop keeps them, that each
-/// has 32 bits.
+/// A product of numbers of 32 bits in lanes of 64 is one instruction. Both words come as one number of 64 bits: so the
+/// compiler still knows, where a loop keeps them, that each has 32 bits.
 #[inline(always)]
-fn wide_products(x: i32x4, factor: i32) -> i32x8
+fn wide_products(x: i64x4, words: i64) -> i32x8
     requires fits { (j : ℕ) → j < 4 → FitsSigned w32 (lane x j) }
-    requires factor { nat_abs factor ≤ 8380416 }
+    requires factor { nat_abs (int_wrap w32 words) ≤ 8380416 }
+    requires quotient { HasQuotient words }
     ensures congruent { (j : ℕ) → j < 4 →
-        IsCongruent (4294967296 * residue (lane result (2 * j + 1))) (residue (lane x j) * residue factor) }
+        IsCongruent (4294967296 * residue (lane result (2 * j + 1))) (residue (lane x j) * residue (int_wrap w32 words)) }
     ensures small { (j : ℕ) → j < 4 → nat_abs (lane result (2 * j + 1)) ≤ 8380416 }
 {
-    let both = i64x4::splat(factor_words(factor));
+    let both = i64x4::splat(words);
     let word = i64x4::splat(32);
-    let wide = x.cast::<i64>();
     // t = the low word of x factor q^-1, and x factor - t q is a multiple of 2^32
-    let low = ((wide * (both >> word)) << word) >> word;
-    let whole = wide * ((both << word) >> word) - low * i64x4::splat(8380417);
+    let low = ((x * (both >> word)) << word) >> word;
+    let whole = x * ((both << word) >> word) - low * i64x4::splat(8380417);
     halves(whole)
+}
+
+/// Lanes as numbers of 64 bits, whose high halves are the odd lanes, and whose low ones have the bits of the even lanes.
+#[inline(always)]
+fn pairs(x: i32x8) -> i64x4
+    requires { (j : ℕ) → j < 8 → FitsSigned w32 (lane x j) }
+    ensures { (j : ℕ) → j < 4 → lane result j
+        ≡ lane x (2 * j + 1) *ℤ pos 4294967296 +ℤ int_rem_euclid (lane x (2 * j)) (pos 4294967296) }
+{
+    i64x4::from_le_bytes(x.to_le_bytes())
 }
 
 /// Numbers of 64 bits as their halves, of which the high ones are the odd lanes.
@@ -184,12 +196,11 @@ fn halves(x: i64x4) -> i32x8
     i32x8::from_le_bytes(x.to_le_bytes())
 }
 
-/// The number of 64 bits whose low word has the bits of `factor`, and whose high word gives the lowest 32 bits of
-/// `factor` where it is multiplied by `q`; 58728449 is the inverse of `q` modulo `2^32`.
+/// The words of a factor: the low one is the factor, and the high one gives its lowest 32 bits where it is multiplied by
+/// `q`; 58728449 is the inverse of `q` modulo `2^32`.
 fn factor_words(factor: i32) -> i64
-    ensures low { int_rem_euclid result (pos 4294967296) ≡ int_rem_euclid factor (pos 4294967296) }
-    ensures high { int_rem_euclid (int_div_euclid result (pos 4294967296) *ℤ pos 8380417) (pos 4294967296)
-        ≡ int_rem_euclid factor (pos 4294967296) }
+    ensures factor { int_wrap w32 result ≡ factor }
+    ensures quotient { HasQuotient result }
 {
     u64::from(factor.cast_unsigned())
         .wrapping_mul((58728449 << 32) + 1)
@@ -197,7 +208,7 @@ fn factor_words(factor: i32) -> i64
 }
 
 /// Each lane modulo `q`, from 0 to `q - 1`, for lanes below `q` in absolute value.
-fn raised(x: Lanes) -> Lanes
+fn add_q_if_negative(x: Lanes) -> Lanes
     requires { (j : ℕ) → j < 8 → nat_abs (lane x j) ≤ 8380416 }
     ensures { EachLane (λ x y. y ≡ pos (residue x)) 8 x result }
 {

@@ -1,5 +1,5 @@
-//! What is multiplied: vectors as their transforms, side by side in eight lanes, and polynomials that vectors are
-//! multiplied by. Internal: serves the crate `fips204` alone.
+//! Vectors in the NTT domain, a polynomial a lane, and the factors that multiply them. Internal: serves the crate `fips204`
+//! alone.
 #![tactic(auto)]
 
 ghost use Rattle.std.specs.Prelude.{◌≡◌, ◌≢◌, ◌<◌, ◌≤◌, ◌+◌, ℕ, [], pos, length, nat_abs, slice_index_or};
@@ -18,7 +18,7 @@ use crate::helpers::vector::value_to_mont;
 use crate::lanes::Lanes;
 use crate::ntt::{write_lanes_inv_ntt, write_lanes_ntt, write_ntt};
 use crate::types::R;
-pub use matrix::{write_matrix_product, write_sampled_product};
+pub use matrix::{Values, write_matrix_product, write_sampled_product};
 use std::marker::Model;
 
 /// A vector of at most eight polynomials, as their transforms: lane `r` of value `n` is value `n` of the transform of
@@ -250,7 +250,7 @@ fn write_multiples(c: &Factor, v: &Transforms, u: &Transforms, out: &mut [Lanes;
     ensures second { HasMultiple 4 (λ r. 4 + r) c.now u.now out.new }
 {
     for n in 0..256usize {
-        out[n] = v.values[n].beside(u.values[n]).times(c.values[n]);
+        out[n] = v.values[n].concat_low(u.values[n]).times(c.values[n]);
     }
     write_lanes_inv_ntt(out);
 }
@@ -273,7 +273,7 @@ fn write_last_lanes<const N: usize>(lanes: &[Lanes; 256], out: &mut [R; N])
     ensures { out.new ≡ vector_of N (λ r n. lane (slice_index_or lanes.now n []) (4 + r)) }
 {
     for n in 0..256usize {
-        write_coefficients(lanes[n].halves_exchanged(), n, out);
+        write_coefficients(lanes[n].swap_halves(), n, out);
     }
 }
 

@@ -13,7 +13,7 @@
 //!     MlDsa65::verify(public_key, &input, signature)
 //! ```
 //!
-//! Where the set is known only when the program runs, `MlDsa` has the same calls by its name: `MlDsa::sign(SetName::MlDsa65, ..)`.
+//! Where the set is known only when the program runs, `AnySet` has the same calls by its name: `AnySet::sign(SetName::MlDsa65, ..)`.
 //!
 //! The modules `ml_dsa_44`, `ml_dsa_65` and `ml_dsa_87` have the key types of a set over these two XOFs: `KG`, `PublicKey`,
 //! `PrivateKey`, and the prepared (expanded) ones. Their calls are those of the traits of `fips204`:
@@ -30,29 +30,30 @@
 //! | use a key many times | `private.prepare()?`, `public.prepare()?`, and the same calls |
 #![tactic(auto)]
 
+pub mod bytes;
 mod callers;
+pub mod der;
 pub mod ml_dsa_44;
 pub mod ml_dsa_65;
 pub mod ml_dsa_87;
 pub mod pieces;
 pub mod streams;
 
+pub use bytes::{Buffer, Input, Refusal, SetName};
 pub use fips204::{
     Fault, MAX_PREHASH_LEN, MAX_SIGN_ATTEMPTS, RngError, check_pre_hash, fault, laws, pre_hash,
     traits, xof,
 };
-pub use fips204_bytes::{Array, Input, Refusal, SetName};
-use fips204_bytes::{ByName, Calls};
 use streams::{Shake128Stream, Shake256Stream};
 
 /// The calls of ML-DSA-44 over bytes.
-pub type MlDsa44 = Calls<4, 4, Shake256Stream, Shake128Stream>;
+pub type MlDsa44 = bytes::MlDsa<4, 4, Shake256Stream, Shake128Stream>;
 
 /// The calls of ML-DSA-65 over bytes.
-pub type MlDsa65 = Calls<6, 5, Shake256Stream, Shake128Stream>;
+pub type MlDsa65 = bytes::MlDsa<6, 5, Shake256Stream, Shake128Stream>;
 
 /// The calls of ML-DSA-87 over bytes.
-pub type MlDsa87 = Calls<8, 7, Shake256Stream, Shake128Stream>;
+pub type MlDsa87 = bytes::MlDsa<8, 7, Shake256Stream, Shake128Stream>;
 
 /// The calls over bytes of a parameter set by its name.
-pub type MlDsa = ByName<Shake256Stream, Shake128Stream>;
+pub type AnySet = bytes::AnySet<Shake256Stream, Shake128Stream>;

@@ -1,3 +1,4 @@
+// `tools/sets` made this file from that of 44: edit that one.
 //! ML-DSA-65 over SHAKE256 and SHAKE128.
 #![tactic(auto)]
 

@@ -8,14 +8,14 @@ ghost use Rattle.fips204.specs.Sets.{named_set};
 ghost use Rattle.fips204_base.specs.declared.fault.Fault.TheVariants.{SignCtx};
 ghost use Rattle.shake.specs.State.{CanBeSaved};
 ghost use Rattle.fips204_shake.specs.Fronts.{shake256_front};
-ghost use Rattle.fips204_bytes.specs.Mu.{tr_of_private, tr_of_public};
-ghost use Rattle.fips204_bytes.specs.declared.refusal.Array.TheVariants.{PublicKey, PrivateKey};
+ghost use Rattle.fips204_shake.specs.Mu.{tr_of_private, tr_of_public};
+ghost use Rattle.fips204_shake.specs.declared.bytes.refusal.Buffer.TheVariants.{PublicKey, PrivateKey};
 ghost use Rattle.fips204_shake.specs.Pieces.{Hashes, HashesSaved, Begins};
 
+use crate::bytes::{Buffer, Refusal, SetName};
 use crate::streams::Shake256Stream;
 use fips204::Fault;
 use fips204::xof::hash;
-use fips204_bytes::{Array, Refusal, SetName};
 use shake::Shake256;
 
 /// Hashes a message in pieces (FIPS 204, Algorithm 2 to the message M', and line 6 of Algorithm 7). Contracts say by
@@ -60,7 +60,7 @@ impl MessageHasher {
         ensures { Begins (public_key_length (named_set set)) PublicKey public_key.now (tr_of_public shake256_front public_key.now) context.now result }
     {
         if public_key.len() != set.public_key_len() {
-            return Err(Refusal::Length(Array::PublicKey));
+            return Err(Refusal::Length(Buffer::PublicKey));
         }
         let tr = hash::<Shake256Stream, 64>(&[public_key]);
         Ok(MessageHasher::new(&tr, context)?)
@@ -77,7 +77,7 @@ impl MessageHasher {
         ensures { Begins (private_key_length (named_set set)) PrivateKey private_key.now (tr_of_private private_key.now) context.now result }
     {
         if private_key.len() != set.private_key_len() {
-            return Err(Refusal::Length(Array::PrivateKey));
+            return Err(Refusal::Length(Buffer::PrivateKey));
         }
         let mut tr = [0; 64];
         tr.copy_from_slice(&private_key[64..128]);

@@ -6,7 +6,10 @@ mod arithmetic;
 #[cfg(test)]
 mod keys;
 #[cfg(test)]
+mod program;
+#[cfg(test)]
 mod signatures;
 #[cfg(test)]
 mod streams;
-pub mod values;
+#[cfg(test)]
+mod values;

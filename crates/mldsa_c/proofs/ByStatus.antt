@@ -6,10 +6,10 @@ use Rattle.fips204_base.specs.declared.fault.Fault.{Fault}
 use Rattle.fips204_base.specs.declared.fault.Fault.TheVariants.{KeyGenRng, SignCtx, SignRng, HashCtx, OidEmpty, OidNotDer, DigestTooLong, DigestLength, HashRng, InternalRng, TooManyAttempts, KeyRange, SamplingLimit}
 use Rattle.fips204.specs.Framing.{Input}
 use Rattle.fips204.specs.ParameterSets.{ParameterSet, IsSet}
-use Rattle.fips204_bytes.specs.Bytes as bytes
-use Rattle.fips204_bytes.specs.Pairs as pairs
-use Rattle.fips204_bytes.specs.declared.refusal.Refusal.{Refusal}
-use Rattle.fips204_bytes.specs.declared.refusal.Refusal.TheVariants.{Length, Library, NotPrepared}
+use Rattle.fips204_shake.specs.Bytes as bytes
+use Rattle.fips204_shake.specs.Pairs as pairs
+use Rattle.fips204_shake.specs.declared.bytes.refusal.Refusal.{Refusal}
+use Rattle.fips204_shake.specs.declared.bytes.refusal.Refusal.TheVariants.{Length, Library, NotPrepared}
 use Rattle.fips204_shake.specs.Fronts.{shake256_front, shake128_front, length-shake256_front}
 use Rattle.mldsa_c.specs.Calls.{Done, Told, IfSized, SignAnswers, VerifyAnswers, ArePair}
 use Rattle.mldsa_c.specs.Statuses.{status_of, done_status, answer_status}

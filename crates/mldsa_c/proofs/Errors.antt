@@ -6,9 +6,9 @@ use Rattle.fips204.specs.Framing.{Input}
 use Rattle.fips204.specs.ParameterSets.{ParameterSet}
 use Rattle.fips204_base.specs.declared.fault.Fault.{Fault}
 use Rattle.fips204_base.specs.declared.fault.Fault.TheVariants.{DigestLength}
-use Rattle.fips204_bytes.specs.Bytes as bytes
-use Rattle.fips204_bytes.specs.Errors.{ErrorsLeave}
-use Rattle.fips204_bytes.specs.Prepared as prepared
+use Rattle.fips204_shake.specs.Bytes as bytes
+use Rattle.fips204_shake.specs.Errors.{ErrorsLeave}
+use Rattle.fips204_shake.specs.Prepared as prepared
 use Rattle.fips204_shake.specs.Fronts.{shake256_front, shake128_front}
 use Rattle.shake.specs.State.{CanBeSaved, saved_count}
 use Rattle.mldsa_c.specs.Calls.{SignAnswers}

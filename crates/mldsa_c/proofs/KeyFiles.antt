@@ -1,11 +1,11 @@
 -- What was read of DER, and what is done with it.
 use Rattle.std.proofs.Common.{◌≡◌, ℕ, List, length, Result, Ok, Err, refl, subst}
 use Rattle.fips204.specs.declared.sets.SetName.{SetName}
-use Rattle.fips204_der.specs.Keys.{PrivateParts, Seed, private_parts, private_length, private_file_length, public_length, public_file_length, IsPublicFile, IsPrivateFile}
-use Rattle.fips204_der.specs.Reading.{private_at}
-use Rattle.fips204_der.specs.declared.fault.DerFault.{DerFault}
-use Rattle.fips204_der.specs.declared.keys.PrivateKey.{PrivateKey}
-use Rattle.fips204_der.proofs.KeyFiles.{private_of_file}
+use Rattle.fips204_shake.specs.Keys.{PrivateParts, Seed, private_parts, private_length, private_file_length, public_length, public_file_length, IsPublicFile, IsPrivateFile}
+use Rattle.fips204_shake.specs.Reading.{private_at}
+use Rattle.fips204_shake.specs.declared.der.fault.DerFault.{DerFault}
+use Rattle.fips204_shake.specs.declared.der.keys.PrivateKey.{PrivateKey}
+use Rattle.fips204_shake.proofs.KeyFiles.{private_of_file}
 use Rattle.mldsa_c.specs.Der.{Reads, IsKey, FromPrivateDer, PublicKeyToDer, SeedToDer}
 use Rattle.mldsa_c.proofs.ByStatus.{sized}
 

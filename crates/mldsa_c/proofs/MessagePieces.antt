@@ -8,7 +8,7 @@ use Rattle.std.proofs.lemmas.List.Concat.{concat_is, flat_map-cons}
 use Rattle.fips204.specs.Framing.{plain, representative}
 use Rattle.fips204.specs.ParameterSets.{ParameterSet, public_key_length, private_key_length}
 use Rattle.fips204.specs.Refusals.{input_fault}
-use Rattle.fips204_bytes.specs.Mu as mus
+use Rattle.fips204_shake.specs.Mu as mus
 use Rattle.fips204_shake.specs.Fronts.{shake256_front, shake128_front}
 use Rattle.fips204_shake.specs.Pieces.{HashesSaved}
 use Rattle.shake.specs.State.{CanBeSaved}

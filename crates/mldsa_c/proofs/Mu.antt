@@ -6,9 +6,9 @@ use Rattle.fips204.specs.Framing.{Input, plain, hashed, framed, represented, fra
 use Rattle.fips204.specs.ParameterSets.{ParameterSet}
 use Rattle.fips204.specs.Refusals.{input_fault}
 use Rattle.fips204.specs.SchemeLaws.{has_context}
-use Rattle.fips204_bytes.specs.Bytes as bytes
-use Rattle.fips204_bytes.specs.Mu as mus
-use Rattle.fips204_bytes.specs.declared.refusal.Refusal.{Refusal}
+use Rattle.fips204_shake.specs.Bytes as bytes
+use Rattle.fips204_shake.specs.Mu as mus
+use Rattle.fips204_shake.specs.declared.bytes.refusal.Refusal.{Refusal}
 use Rattle.fips204_shake.specs.Fronts.{shake256_front, shake128_front, length-shake256_front}
 use Rattle.mldsa_c.specs.Calls.{IfSized, SignAnswers, SignMuAnswers, VerifyAnswers, VerifyMuAnswers}
 use Rattle.mldsa_c.proofs.ByStatus.{said, sized}

@@ -2,8 +2,8 @@
 use Rattle.std.specs.Prelude.{◌≡◌, ◌≢◌, ◌⊎◌, ℕ, Bool, List, length, Result, MatchOption, ⊤}
 use Rattle.fips204.specs.Framing.{Input, pre_hash_fault, represented}
 use Rattle.fips204.specs.ParameterSets.{ParameterSet}
-use Rattle.fips204_bytes.specs.Bytes as bytes
-use Rattle.fips204_bytes.specs.declared.refusal.Refusal.{Refusal}
+use Rattle.fips204_shake.specs.Bytes as bytes
+use Rattle.fips204_shake.specs.declared.bytes.refusal.Refusal.{Refusal}
 use Rattle.fips204_shake.specs.Fronts.{shake256_front, shake128_front}
 use Rattle.mldsa_c.specs.Statuses.{status_of, done_status, answer_status, accepted}
 

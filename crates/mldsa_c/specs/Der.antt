@@ -5,15 +5,15 @@ use Rattle.fips204.specs.Encodings.{private_key_bytes}
 use Rattle.fips204.specs.Refusals.{generated}
 use Rattle.fips204.specs.Sets.{named_set}
 use Rattle.fips204.specs.declared.sets.SetName.{SetName}
-use Rattle.fips204_bytes.specs.Bytes as bytes
+use Rattle.fips204_shake.specs.Bytes as bytes
 use Rattle.fips204_base.specs.declared.fault.Fault.TheVariants.{KeyRange}
-use Rattle.fips204_bytes.specs.declared.refusal.Refusal.{Refusal}
-use Rattle.fips204_bytes.specs.declared.refusal.Refusal.TheVariants.{Library}
-use Rattle.fips204_der.specs.Keys.{PrivateParts, Seed, Expanded, Both, private_parts, public_length, private_length, public_file_length, private_file_length, IsPublicFile, IsPrivateFile}
-use Rattle.fips204_der.specs.Reading.{public_at, private_at}
-use Rattle.fips204_der.specs.declared.fault.DerFault.{DerFault}
-use Rattle.fips204_der.specs.declared.keys.PrivateKey.{PrivateKey}
-use Rattle.fips204_der.specs.declared.fault.DerFault.TheVariants.{Short, Behind, Element, Version, OtherAlgorithm, KeyLength}
+use Rattle.fips204_shake.specs.declared.bytes.refusal.Refusal.{Refusal}
+use Rattle.fips204_shake.specs.declared.bytes.refusal.Refusal.TheVariants.{Library}
+use Rattle.fips204_shake.specs.Keys.{PrivateParts, Seed, Expanded, Both, private_parts, public_length, private_length, public_file_length, private_file_length, IsPublicFile, IsPrivateFile}
+use Rattle.fips204_shake.specs.Reading.{public_at, private_at}
+use Rattle.fips204_shake.specs.declared.der.fault.DerFault.{DerFault}
+use Rattle.fips204_shake.specs.declared.der.keys.PrivateKey.{PrivateKey}
+use Rattle.fips204_shake.specs.declared.der.fault.DerFault.TheVariants.{Short, Behind, Element, Version, OtherAlgorithm, KeyLength}
 use Rattle.fips204_shake.specs.Fronts.{shake256_front, shake128_front}
 use Rattle.mldsa_c.specs.Calls.{IfSized}
 use Rattle.mldsa_c.specs.Pieces.{Keeps}

@@ -2,7 +2,7 @@
 use Rattle.std.specs.Prelude.{◌≡◌, ℕ, List}
 use Rattle.fips204.specs.Framing.{Input, represented}
 use Rattle.fips204.specs.ParameterSets.{ParameterSet}
-use Rattle.fips204_bytes.specs.Prepared as bytes
+use Rattle.fips204_shake.specs.Prepared as bytes
 use Rattle.fips204_shake.specs.Fronts.{shake256_front, shake128_front}
 use Rattle.mldsa_c.specs.Calls.{Done, Told, IfSized}
 

@@ -2,8 +2,8 @@
 use Rattle.std.specs.Prelude.{ℕ, Bool, true, false, Result, Ok, Err, ⊤, nat_eq, if◌then◌else◌}
 use Rattle.fips204_base.specs.declared.fault.Fault.{Fault}
 use Rattle.fips204_base.specs.declared.fault.Fault.TheVariants.{KeyGenRng, SignCtx, SignRng, HashCtx, OidEmpty, OidNotDer, DigestTooLong, DigestLength, HashRng, InternalRng, TooManyAttempts, KeyRange, SamplingLimit}
-use Rattle.fips204_bytes.specs.declared.refusal.Refusal.{Refusal}
-use Rattle.fips204_bytes.specs.declared.refusal.Refusal.TheVariants.{Length, Library, NotPrepared}
+use Rattle.fips204_shake.specs.declared.bytes.refusal.Refusal.{Refusal}
+use Rattle.fips204_shake.specs.declared.bytes.refusal.Refusal.TheVariants.{Length, Library, NotPrepared}
 
 -- the status of each fault
 abbrev pub status_of : Fault → ℕ

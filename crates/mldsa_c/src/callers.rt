@@ -1,4 +1,4 @@
-//! Callers of the laws over bytes, which show that they hold of what the exports return, at each set. No code calls them.
+//! Never called: these proofs show that the laws over bytes hold of what the exports return, at each set.
 #![tactic(auto)]
 
 ghost use Rattle.std.specs.Prelude.{◌≡◌, ◌≢◌, ◌<◌, ◌↔◌, ◌⊎◌, ℕ, IsTrue, List, None, Some, length, replicate};
@@ -9,9 +9,9 @@ ghost use Rattle.fips204.specs.Refusals.{input_fault};
 ghost use Rattle.fips204.specs.SchemeLaws.{AreFramedAlike, NamesCollision, NamesHashCollision, NamesKeyCollision, has_context};
 ghost use Rattle.fips204.specs.declared.sets.SetName.{SetName};
 ghost use Rattle.fips204_base.specs.declared.fault.Fault.TheVariants.{DigestLength};
-ghost use Rattle.fips204_bytes.specs.Binding.{OfKey};
-ghost use Rattle.fips204_bytes.specs.Mu.{tr_of_private, tr_of_public};
-ghost use Rattle.fips204_der.specs.Keys.{public_length};
+ghost use Rattle.fips204_shake.specs.Binding.{OfKey};
+ghost use Rattle.fips204_shake.specs.Mu.{tr_of_private, tr_of_public};
+ghost use Rattle.fips204_shake.specs.Keys.{public_length};
 ghost use Rattle.fips204_shake.specs.Fronts.{shake256_front, shake128_front};
 ghost use Rattle.fips204_shake.specs.Pieces.{HashesSaved};
 ghost use Rattle.mldsa_c.specs.Calls.{KeygenAnswers, SignAnswers, VerifyAnswers, SignMuAnswers, VerifyMuAnswers, PublicKeyAnswers, CheckPrivateKeyAnswers, IsWholeAnswers, IsPairAnswers, CheckPreHashAnswers, ArePair};
@@ -19,7 +19,7 @@ ghost use Rattle.mldsa_c.specs.Der.{PublicKeyToDer, PublicKeyFromDer, SeedToDer,
 ghost use Rattle.mldsa_c.specs.Pieces.{Begins, Updates, Finishes, Takes};
 ghost use Rattle.mldsa_c.specs.Prepared.{PreparePublicKeyAnswers, PreparePrivateKeyAnswers, VerifyPreparedAnswers, VerifyMuPreparedAnswers, SignPreparedAnswers, SignMuPreparedAnswers};
 
-use fips204_bytes::laws;
+use fips204_shake::bytes::laws;
 
 /// What a program in C relies on beyond the clause of one export: keys of one `keygen`, or of which `is_pair` says yes, belong
 /// together; the mu of a message or digest that breaks no condition stands for it; one signature for two values of mu, for two

@@ -3,15 +3,17 @@
 
 ghost use Rattle.std.specs.Prelude.{◌≡◌, length, Ok, Err, IfOk};
 ghost use Rattle.fips204.specs.Sets.{named_set};
-ghost use Rattle.fips204_der.specs.Keys.{HasPrivateSizes, private_parts, private_length};
-ghost use Rattle.fips204_der.specs.Reading.{private_at};
+ghost use Rattle.fips204_shake.specs.Keys.{HasPrivateSizes, private_parts, private_length};
+ghost use Rattle.fips204_shake.specs.Reading.{private_at};
 ghost use Rattle.mldsa_c.specs.Pieces.{Keeps};
 ghost use Rattle.mldsa_c.specs.Der.{status_of_der, IfGenerated, IfPair, IfSame, IfConsistent, IfSeed, IsKey, Has, Reads, PublicKeyFromDer, PrivateKeyFromDer, SeedFromDer, PublicKeyToDer, SeedToDer, PrivateKeyToDer, BothToDer};
 
 use crate::statuses::{DONE, WRONG_LENGTH, status_of_refusal};
-use fips204_bytes::array_of;
-use fips204_der::{DerFault, PrivateKey, read_private, read_public, write_private, write_public};
-use fips204_shake::{Fault, MlDsa, Refusal, SetName};
+use fips204_shake::bytes::array_of;
+use fips204_shake::der::{
+    DerFault, PrivateKey, read_private, read_public, write_private, write_public,
+};
+use fips204_shake::{AnySet, Fault, Refusal, SetName};
 
 /// The key is one of another parameter set.
 const OTHER_SET: u32 = 24;
@@ -49,7 +51,7 @@ fn generate(set: SetName, seed: &[u8; 32], private_key: &mut [u8]) -> Result<(),
 {
     let mut public_key = [0; PUBLIC_KEY];
     let public_key = &mut public_key[..set.public_key_len()];
-    match MlDsa::keygen(set, seed, public_key, private_key) {
+    match AnySet::keygen(set, seed, public_key, private_key) {
         Ok(()) => Ok(()),
         Err(refusal) => Err(status_of_refusal(refusal)),
     }
@@ -59,7 +61,7 @@ fn generate(set: SetName, seed: &[u8; 32], private_key: &mut [u8]) -> Result<(),
 fn check_pair(set: SetName, private_key: &[u8]) -> Result<(), u32>
     ensures { IfPair (named_set set) private_key.now (result ≡ Ok tt) (λ why. result ≡ Err why) }
 {
-    match MlDsa::is_pair(set, private_key) {
+    match AnySet::is_pair(set, private_key) {
         Ok(true) => Ok(()),
         Ok(false) | Err(Refusal::Library(Fault::KeyRange)) => Err(INCONSISTENT),
         Err(refusal) => Err(status_of_refusal(refusal)),
@@ -67,7 +69,7 @@ fn check_pair(set: SetName, private_key: &[u8]) -> Result<(), u32>
 }
 
 /// Does nothing if a seed generates this private key; an error is a status.
-#[tactic(auto, using(fips204_der::proofs::KeyFiles::private_small))]
+#[tactic(auto, using(fips204_shake::proofs::KeyFiles::private_small))]
 fn check_both(set: SetName, seed: &[u8; 32], private_key: &[u8]) -> Result<(), u32>
     requires { length private_key.now ≡ private_length set }
     ensures { IfGenerated (named_set set) seed.now (λ key. IfSame key private_key.now (result ≡ Ok tt) (result ≡ Err 25)) (λ why. result ≡ Err why) }
@@ -225,7 +227,7 @@ pub(crate) fn private_key_to_der(set: SetName, private_key: &[u8], der: &mut [u8
 }
 
 /// Writes a seed and the expanded key that it generates as a private key.
-#[tactic(auto, using(fips204_der::proofs::KeyFiles::private_small))]
+#[tactic(auto, using(fips204_shake::proofs::KeyFiles::private_small))]
 pub(crate) fn both_to_der(set: SetName, seed: &[u8], der: &mut [u8]) -> u32
     ensures { BothToDer set seed.now der.old der.new result }
 {

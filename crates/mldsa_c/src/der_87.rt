@@ -1,3 +1,4 @@
+// `tools/sets` made this file from that of 44: edit that one.
 //! The exports of ML-DSA-87 for keys in DER.
 #![tactic(auto)]
 

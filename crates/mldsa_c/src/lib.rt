@@ -1,4 +1,4 @@
-//! ML-DSA (FIPS 204) for C: the calls of `fips204_bytes` over SHAKE, once for each parameter set.
+//! ML-DSA (FIPS 204) for C: the calls of `fips204_shake` over bytes, once for each parameter set.
 //!
 //! No export has a `requires`: every array may have any length, and a wrong one gives the status 2. An array
 //! that a call writes is as it was after every status but 0. `c/mldsa.h` declares the exports and says what they return.

@@ -1,3 +1,4 @@
+// `tools/sets` made this file from that of 44: edit that one.
 //! The exports of ML-DSA-65.
 #![tactic(auto)]
 
@@ -5,12 +6,12 @@ ghost use Rattle.fips204.specs.Framing.{plain, hashed};
 ghost use Rattle.fips204.specs.ParameterSets.{set_65};
 ghost use Rattle.mldsa_c.specs.Calls.{KeygenAnswers, SignAnswers, VerifyAnswers, AcceptsAnswers, SignMuAnswers, VerifyMuAnswers, PublicKeyAnswers, CheckPrivateKeyAnswers, IsWholeAnswers, IsPairAnswers};
 ghost use Rattle.mldsa_c.specs.Pieces.{Begins};
-ghost use Rattle.fips204_bytes.specs.Mu.{tr_of_private, tr_of_public};
+ghost use Rattle.fips204_shake.specs.Mu.{tr_of_private, tr_of_public};
 ghost use Rattle.fips204_shake.specs.Fronts.{shake256_front};
 ghost use Rattle.fips204.specs.ParameterSets.{public_key_length, private_key_length};
 
 use crate::pieces;
-use crate::statuses::{WRONG_LENGTH, accepted, array_of, status, verdict_status};
+use crate::statuses::{WRONG_LENGTH, accepted, checked_array, status, verdict_status};
 use fips204_shake::{Input, MlDsa65, SetName};
 
 /// Makes the key pair of a seed of 32 bytes.
@@ -18,7 +19,7 @@ use fips204_shake::{Input, MlDsa65, SetName};
 pub extern "C" fn mldsa65_keygen(seed: &[u8], public_key: &mut [u8], private_key: &mut [u8]) -> u32
     ensures { KeygenAnswers set_65 seed.now public_key.old public_key.new private_key.old private_key.new result }
 {
-    let seed = array_of!(seed, 32);
+    let seed = checked_array!(seed, 32);
     status(MlDsa65::keygen(seed, public_key, private_key))
 }
 
@@ -33,7 +34,7 @@ pub extern "C" fn mldsa65_sign(
 ) -> u32
     ensures { SignAnswers set_65 private_key.now (plain message.now context.now) random.now signature.old signature.new result }
 {
-    let random = array_of!(random, 32);
+    let random = checked_array!(random, 32);
     let input = Input::Message(message, context);
     status(MlDsa65::sign(private_key, random, &input, signature))
 }
@@ -77,7 +78,7 @@ pub extern "C" fn mldsa65_hash_sign(
 ) -> u32
     ensures { SignAnswers set_65 private_key.now (hashed digest.now context.now oid.now) random.now signature.old signature.new result }
 {
-    let random = array_of!(random, 32);
+    let random = checked_array!(random, 32);
     let input = Input::Digest(digest, context, oid);
     status(MlDsa65::sign(private_key, random, &input, signature))
 }
@@ -107,8 +108,8 @@ pub extern "C" fn mldsa65_sign_mu(
 ) -> u32
     ensures { SignMuAnswers set_65 private_key.now mu.now random.now signature.old signature.new result }
 {
-    let mu = array_of!(mu, 64);
-    let random = array_of!(random, 32);
+    let mu = checked_array!(mu, 64);
+    let random = checked_array!(random, 32);
     status(MlDsa65::sign(private_key, random, &Input::Mu(mu), signature))
 }
 
@@ -117,7 +118,7 @@ pub extern "C" fn mldsa65_sign_mu(
 pub extern "C" fn mldsa65_verify_mu(public_key: &[u8], mu: &[u8], signature: &[u8]) -> u32
     ensures { VerifyMuAnswers set_65 public_key.now mu.now signature.now result }
 {
-    let signed = array_of!(mu, 64);
+    let signed = checked_array!(mu, 64);
     verdict_status(MlDsa65::verify(public_key, &Input::Mu(signed), signature))
 }
 

@@ -3,7 +3,7 @@
 
 ghost use Rattle.fips204.specs.ParameterSets.{public_key_length, private_key_length};
 ghost use Rattle.fips204.specs.Sets.{named_set};
-ghost use Rattle.fips204_bytes.specs.Mu.{tr_of_private, tr_of_public};
+ghost use Rattle.fips204_shake.specs.Mu.{tr_of_private, tr_of_public};
 ghost use Rattle.fips204_shake.specs.Fronts.{shake256_front};
 ghost use Rattle.mldsa_c.specs.Pieces.{Begins, Updates, Finishes};
 

@@ -1,3 +1,4 @@
+// `tools/sets` made this file from that of 44: edit that one.
 //! The exports of ML-DSA-65 with prepared keys.
 #![tactic(auto)]
 
@@ -5,7 +6,7 @@ ghost use Rattle.fips204.specs.Framing.{plain, hashed};
 ghost use Rattle.fips204.specs.ParameterSets.{set_65};
 ghost use Rattle.mldsa_c.specs.Prepared.{PreparePublicKeyAnswers, VerifyPreparedAnswers, VerifyMuPreparedAnswers, PreparePrivateKeyAnswers, SignPreparedAnswers, SignMuPreparedAnswers};
 
-use crate::statuses::{WRONG_LENGTH, array_of, status, verdict_status};
+use crate::statuses::{WRONG_LENGTH, checked_array, status, verdict_status};
 use fips204_shake::{Input, MlDsa65};
 
 /// Prepares a public key for many verifications.
@@ -57,7 +58,7 @@ pub extern "C" fn mldsa65_verify_mu_prepared(
 ) -> u32
     ensures { VerifyMuPreparedAnswers set_65 prepared_public_key.now mu.now signature.now result }
 {
-    let signed = array_of!(mu, 64);
+    let signed = checked_array!(mu, 64);
     verdict_status(MlDsa65::verify_prepared(prepared_public_key, &Input::Mu(signed), signature))
 }
 
@@ -83,7 +84,7 @@ pub extern "C" fn mldsa65_sign_prepared(
 ) -> u32
     ensures { SignPreparedAnswers set_65 prepared_private_key.now (plain message.now context.now) random.now signature.old signature.new result }
 {
-    let random = array_of!(random, 32);
+    let random = checked_array!(random, 32);
     let input = Input::Message(message, context);
     status(MlDsa65::sign_prepared(prepared_private_key, random, &input, signature))
 }
@@ -100,7 +101,7 @@ pub extern "C" fn mldsa65_hash_sign_prepared(
 ) -> u32
     ensures { SignPreparedAnswers set_65 prepared_private_key.now (hashed digest.now context.now oid.now) random.now signature.old signature.new result }
 {
-    let random = array_of!(random, 32);
+    let random = checked_array!(random, 32);
     let input = Input::Digest(digest, context, oid);
     status(MlDsa65::sign_prepared(prepared_private_key, random, &input, signature))
 }
@@ -115,7 +116,7 @@ pub extern "C" fn mldsa65_sign_mu_prepared(
 ) -> u32
     ensures { SignMuPreparedAnswers set_65 prepared_private_key.now mu.now random.now signature.old signature.new result }
 {
-    let mu = array_of!(mu, 64);
-    let random = array_of!(random, 32);
+    let mu = checked_array!(mu, 64);
+    let random = checked_array!(random, 32);
     status(MlDsa65::sign_prepared(prepared_private_key, random, &Input::Mu(mu), signature))
 }

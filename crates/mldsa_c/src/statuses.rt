@@ -4,7 +4,7 @@
 ghost use Rattle.std.specs.Prelude.{◌≡◌};
 ghost use Rattle.mldsa_c.specs.Statuses.{status_of, refusal_status, done_status, answer_status, accepted};
 
-use fips204_bytes::{Fault, Refusal};
+use fips204_shake::bytes::{Fault, Refusal};
 
 /// Done; of a question: yes.
 pub(crate) const DONE: u32 = 0;
@@ -22,7 +22,7 @@ pub(crate) const BROKEN_STATE: u32 = 16;
 const NOT_PREPARED: u32 = 17;
 
 /// A slice as an array of this length; the function around it returns `WRONG_LENGTH` for a slice of another.
-macro_rules! array_of {
+macro_rules! checked_array {
     ($slice:ident, $length:literal) => {
         match $slice.as_array::<$length>() {
             Some(array) => array,
@@ -31,7 +31,7 @@ macro_rules! array_of {
     };
 }
 
-pub(crate) use array_of;
+pub(crate) use checked_array;
 
 /// The status of a fault.
 pub(crate) fn status_of(fault: Fault) -> u32

@@ -1,11 +1,11 @@
 -- The lines of a batch, entry by entry.
 use Rattle.std.proofs.Common.{◌≡◌, ℕ, zero, suc, ◌+◌, ◌-◌, ◌*◌, ◌<◌, List, [], ◌∷◌, ◌++◌, length, get_or, Option, Some, None, Ok, refl, sym, ap, ◌∙◌, arith, subst}
 use Rattle.fips204.specs.ParameterSets.{ParameterSet, signature_length}
-use Rattle.mldsa_lines.specs.declared.fault.RunFault.{RunFault}
+use Rattle.mldsa_engine.specs.declared.fault.RunFault.{RunFault}
 use Rattle.mldsa_engine.specs.declared.call.Task.TheVariants.{Batch}
-use Rattle.mldsa_lines.specs.Lines.{after_line, after_lines, line_bytes, lines_bytes, AllFit, TakesLines, Stops}
+use Rattle.mldsa_engine.specs.Lines.{after_line, after_lines, line_bytes, lines_bytes, AllFit, TakesLines, Stops}
 use Rattle.mldsa_engine.specs.ProgramText.{wanted_lines, entry_lines, two_bytes, entries_of, entries_of_line, input_lines}
-use Rattle.mldsa_lines.proofs.LinesInSequence.{AllFit-append, before_good, takes_more, stops_after, stops_before}
+use Rattle.mldsa_engine.proofs.LinesInSequence.{AllFit-append, before_good, takes_more, stops_after, stops_before}
 
 -- the third of the lines that were taken
 third_line : (first second third : Option ℕ) (input : List ℕ) (lines : List (List ℕ))

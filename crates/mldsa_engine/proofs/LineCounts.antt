@@ -2,12 +2,12 @@
 use Rattle.std.proofs.Common.{◌≡◌, ℕ, Bool, List, [], ◌∷◌, ◌*◌, map, length, get_or, Option, Result, Ok, Err, IfOk, IfErr, Some, None, refl, sym, ap, zero, suc, ◌∙◌}
 use Rattle.std.proofs.lemmas.List.{length-map}
 use Rattle.fips204.specs.ParameterSets.{ParameterSet, public_key_length, signature_length}
-use Rattle.mldsa_lines.specs.declared.fault.RunFault.{RunFault}
+use Rattle.mldsa_engine.specs.declared.fault.RunFault.{RunFault}
 use Rattle.mldsa_engine.specs.declared.call.Task.{Task}
 use Rattle.mldsa_engine.specs.declared.call.Task.TheVariants.{Batch}
-use Rattle.mldsa_lines.specs.Lines.{AllFit, TakesLines, Stops}
+use Rattle.mldsa_engine.specs.Lines.{AllFit, TakesLines, Stops}
 use Rattle.mldsa_engine.proofs.Entries.{two_each, batch_taken, stops_batch}
-use Rattle.mldsa_lines.proofs.LinesInSequence.{AllFit-length}
+use Rattle.mldsa_engine.proofs.LinesInSequence.{AllFit-length}
 use Rattle.mldsa_engine.specs.ProgramText.{wanted_lines, input_lines, entry_lines, two_bytes, Answers, Executes}
 use Rattle.mldsa_engine.specs.InnerSteps.{JudgesByKey}
 

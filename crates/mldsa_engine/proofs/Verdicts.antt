@@ -15,10 +15,10 @@ use Rattle.fips204.specs.ParameterSets.{ParameterSet, signature_length}
 use Rattle.fips204.specs.Prepared.{PreparedPublic, prepared_public, PreparedAnswersAsPlain}
 use Rattle.fips204.specs.Refusals.{sign_input, VerifiesInput}
 use Rattle.fips204.specs.declared.types.T.{T}
-use Rattle.mldsa_lines.specs.Lines.{AllFit, TakesLines}
+use Rattle.mldsa_engine.specs.Lines.{AllFit, TakesLines}
 use Rattle.mldsa_engine.specs.ProgramText.{text, answer_word, entry_lines, Refuses, Tells, TellsSignature, AnswersEach, TellsAll, TellsVerdict}
 use Rattle.mldsa_engine.specs.InnerSteps.{AcceptsIfPrepared, JudgesEntries, JudgesByKey}
-use Rattle.mldsa_lines.proofs.LinesInSequence.{no_lines}
+use Rattle.mldsa_engine.proofs.LinesInSequence.{no_lines}
 use Rattle.mldsa_engine.proofs.Entries.{next_entry}
 
 -- the result for one entry more

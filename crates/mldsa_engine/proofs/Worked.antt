@@ -4,7 +4,7 @@ use Rattle.std.specs.Prelude.{codes}
 use Rattle.fips204.specs.Packing.{bit_length}
 use Rattle.fips204.specs.ParameterSets.{set_44, set_87}
 use Rattle.hex.specs.Hex.{decode_pairs, encode_with}
-use Rattle.mldsa_lines.specs.Lines.{judged}
+use Rattle.mldsa_engine.specs.Lines.{judged}
 use Rattle.mldsa_engine.specs.ProgramText.{two_bytes, entries_of, later_lines, text, hex_text}
 use Rattle.mldsa_engine.specs.declared.call.Task.TheVariants.{Verify, Batch}
 

@@ -6,7 +6,7 @@ use Rattle.fips204.specs.Prepared.{PreparedPublic, VerifiesPrepared}
 use Rattle.fips204.specs.Refusals.{VerifiesInput}
 use Rattle.fips204.specs.fault.Fault.{Fault}
 use Rattle.fips204.specs.Framing.{plain}
-use Rattle.mldsa_lines.specs.Lines.{AllFit, TakesLines}
+use Rattle.mldsa_engine.specs.Lines.{AllFit, TakesLines}
 use Rattle.mldsa_engine.specs.ProgramText.{entry_lines, AnswersEach, TellsAll}
 
 -- what preparing a key returned accepts a message: nothing where it failed

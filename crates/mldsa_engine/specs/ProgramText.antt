@@ -12,10 +12,10 @@ use Rattle.fips204.specs.Sets.{named_set}
 use Rattle.fips204.specs.Refusals.{generated, sign_input, VerifiesInput}
 use Rattle.fips204.specs.Framing.{plain}
 use Rattle.mldsa_engine.specs.Calls.{first_stream, second_stream, AreCall, AreNoCall}
-use Rattle.mldsa_lines.specs.Devices.{KeepsWritten, MarkedDevice}
-use Rattle.mldsa_lines.specs.Lines.{after_lines, line_bytes, IsLineFault, TakesLines, FaultOfLines, InTurn}
-use Rattle.mldsa_lines.specs.declared.fault.RunFault.{RunFault}
-use Rattle.mldsa_lines.specs.declared.fault.RunFault.TheVariants.{Usage, Write}
+use Rattle.mldsa_engine.specs.Devices.{KeepsWritten, MarkedDevice}
+use Rattle.mldsa_engine.specs.Lines.{after_lines, line_bytes, IsLineFault, TakesLines, FaultOfLines, InTurn}
+use Rattle.mldsa_engine.specs.declared.fault.RunFault.{RunFault}
+use Rattle.mldsa_engine.specs.declared.fault.RunFault.TheVariants.{Usage, Write}
 use Rattle.mldsa_engine.specs.declared.call.Task.{Task}
 use Rattle.mldsa_engine.specs.declared.call.Task.TheVariants.{Id, Keygen, Sign, Verify, Check, Batch}
 use Rattle.fips204.specs.declared.sets.SetName.{SetName}

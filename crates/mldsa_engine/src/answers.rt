@@ -7,25 +7,24 @@ ghost use Rattle.fips204.specs.Refusals.{VerifiesInput};
 ghost use Rattle.fips204.specs.Framing.{plain};
 ghost use Rattle.fips204.specs.Prepared.{prepared_public};
 ghost use Rattle.fips204.specs.Sets.{named_set};
-ghost use Rattle.mldsa_lines.specs.Lines.{AllFit, IsInputFault, StopsAt};
-ghost use Rattle.mldsa_engine.specs.ProgramText.{two_bytes, wanted_lines, entry_lines, input_lines, lines_of_input, hex_text, TellsKeys, TellsSignature, TellsCheck, Answers, Executes};
+ghost use Rattle.mldsa_engine.specs.Lines.{AllFit, IsInputFault, StopsAt};
+ghost use Rattle.mldsa_engine.specs.ProgramText.{two_bytes, entry_lines, input_lines, lines_of_input, hex_text, TellsKeys, TellsSignature, TellsCheck, Answers, Executes};
 ghost use Rattle.mldsa_engine.specs.InnerSteps.{AcceptsIfPrepared, JudgesEntries, JudgesByKey};
 
 mod writing;
 
 use crate::call::Task;
+use crate::lines::read_lines;
+use crate::{Marked, RunFault};
 use fips204::sets::{HasSet, KeySizes, Matrix, Set, SignatureSizes};
 use fips204::traits::{KeyGen, SerDes, Signer, Verifier, pairwise_check};
 use fips204::types::{KG, PreparedPublicKey, PrivateKey, PublicKey};
 use fips204::xof::Xof;
 use fips204::{Fault, SetName};
-use fips204_bytes::array_of;
-use mldsa_lines::lines::read_lines;
-use mldsa_lines::{Marked, RunFault};
 use std::alloc::Global;
 use std::io::Read;
 use std::marker::PhantomData;
-pub(crate) use writing::Output;
+pub(crate) use writing::Reply;
 use writing::{one_line, refuse, tell, two_lines};
 
 /// Reads the lines that a command wants, and carries it out at a parameter set.
@@ -34,7 +33,7 @@ pub(crate) fn execute<H: Xof, G: Xof, I: Read>(
     task: Task,
     set: SetName,
     input: &mut Marked<I>,
-) -> Result<Output, RunFault>
+) -> Result<Reply, RunFault>
     requires unmarked { input.old.failed ≡ false }
     ensures read_failed { IsTrue input.new.failed ↔ (result ≡ Err RunFault.Read) }
     ensures executed { IfOk result (λ output. Executes H.front G.front task (named_set set)
@@ -74,7 +73,7 @@ where
         alloc: Global,
         task: Task,
         input: &mut Marked<I>,
-    ) -> Result<Output, RunFault>
+    ) -> Result<Reply, RunFault>
         requires unmarked { input.old.failed ≡ false }
         ensures read_failed { IsTrue input.new.failed ↔ (result ≡ Err RunFault.Read) }
         ensures executed { IfOk result (λ output. Executes H.front G.front task S.set
@@ -82,25 +81,38 @@ where
         ensures stops { IfErr result (StopsAt I.remaining input.old input.new 1 (input_lines task S.set (I.remaining input.old.device))) }
         ensures faults { IfErr result (λ fault. IsInputFault fault) }
     {
-        let (wanted, count) = Self::wanted(task);
-        let lines = read_lines(alloc, 1, &wanted[..count], input)?;
-        let lines = lines.as_slice();
         match task {
-            Task::Id => Self::identify(alloc, lines[0].as_slice()),
-            Task::Keygen => Self::keygen(alloc, array_of(lines[0].as_slice())),
+            Task::Id => {
+                let lines = read_lines(alloc, 1, &[Some(PK_LEN)], input)?;
+                let lines = lines.as_slice();
+                Self::identify(alloc, lines[0].as_slice())
+            }
+            Task::Keygen => {
+                let lines = read_lines(alloc, 1, &[Some(32)], input)?;
+                let lines = lines.as_slice();
+                Self::keygen(alloc, array_of(lines[0].as_slice()))
+            }
             Task::Sign => {
-                let [key, seed, context, message] = fields(lines);
+                let wanted = [Some(SK_LEN), Some(32), None, None];
+                let lines = read_lines(alloc, 1, &wanted, input)?;
+                let [key, seed, context, message] = fields(lines.as_slice());
                 Self::sign(alloc, key, array_of(seed), context, message)
             }
             Task::Verify => {
-                let [key, signature, context, message] = fields(lines);
+                let wanted = [Some(PK_LEN), Some(SIG_LEN), None, None];
+                let lines = read_lines(alloc, 1, &wanted, input)?;
+                let [key, signature, context, message] = fields(lines.as_slice());
                 tell(alloc, Self::accepts(key, message, signature, context))
             }
             Task::Check => {
-                let [xi, rnd, context, message] = fields(lines);
+                let wanted = [Some(32), Some(32), None, None];
+                let lines = read_lines(alloc, 1, &wanted, input)?;
+                let [xi, rnd, context, message] = fields(lines.as_slice());
                 Self::check(alloc, array_of(xi), array_of(rnd), context, message)
             }
             Task::Batch => {
+                let lines = read_lines(alloc, 1, &[Some(PK_LEN), None, Some(2)], input)?;
+                let lines = lines.as_slice();
                 let count = number_of(lines[2].as_slice());
                 let (key, context) = (lines[0].as_slice(), lines[1].as_slice());
                 Self::judge_batch(alloc, key, context, count, input)
@@ -108,26 +120,9 @@ where
         }
     }
 
-    /// The lines that a command wants of every input: a number of bytes each, or any number of them. They are the
-    /// first of the array, as many as the number beside it says.
-    fn wanted(task: Task) -> ([Option<usize>; 4], usize)
-        ensures lines { take result.1 result.0 ≡ wanted_lines task S.set }
-        ensures most { result.1 ≤ 4 }
-    {
-        let (public_key, signature) = (Some(PK_LEN), Some(SIG_LEN));
-        match task {
-            Task::Id => ([public_key, None, None, None], 1),
-            Task::Keygen => ([Some(32), None, None, None], 1),
-            Task::Sign => ([Some(SK_LEN), Some(32), None, None], 4),
-            Task::Verify => ([public_key, signature, None, None], 4),
-            Task::Check => ([Some(32), Some(32), None, None], 4),
-            Task::Batch => ([public_key, None, Some(2), None], 3),
-        }
-    }
-
     /// The public key that has these bytes, and its hash, as lines of hex.
     #[inline(never)]
-    fn identify(alloc: Global, key: &[u8]) -> Result<Output, RunFault>
+    fn identify(alloc: Global, key: &[u8]) -> Result<Reply, RunFault>
         requires key { length key.now ≡ PK_LEN }
         ensures given { IfOk result (λ output. (output.text.items ≡ hex_text (key.now ∷ take 64 (H.front key.now) ∷ []))
             × (output.success ≡ true)) }
@@ -140,7 +135,7 @@ where
 
     /// The keys of a seed, as lines of hex, or the error.
     #[inline(never)]
-    fn keygen(alloc: Global, seed: &[u8; 32]) -> Result<Output, RunFault>
+    fn keygen(alloc: Global, seed: &[u8; 32]) -> Result<Reply, RunFault>
         ensures given { IfOk result (λ output. TellsKeys S.set H.front G.front seed.now output.text.items output.success) }
         ensures memory { IfErr result (λ fault. fault ≡ RunFault.Memory) }
     {
@@ -159,7 +154,7 @@ where
         seed: &[u8; 32],
         context: &[u8],
         message: &[u8],
-    ) -> Result<Output, RunFault>
+    ) -> Result<Reply, RunFault>
         requires key { length key.now ≡ SK_LEN }
         ensures given { IfOk result (λ output. TellsSignature S.set H.front G.front
             key.now seed.now context.now message.now output.text.items output.success) }
@@ -193,7 +188,7 @@ where
         rnd: &[u8; 32],
         context: &[u8],
         message: &[u8],
-    ) -> Result<Output, RunFault>
+    ) -> Result<Reply, RunFault>
         ensures given { IfOk result (λ output. TellsCheck S.set H.front G.front
             xi.now rnd.now context.now message.now output.text.items output.success) }
         ensures memory { IfErr result (λ fault. fault ≡ RunFault.Memory) }
@@ -213,7 +208,7 @@ where
         context: &[u8],
         count: usize,
         input: &mut Marked<I>,
-    ) -> Result<Output, RunFault>
+    ) -> Result<Reply, RunFault>
         requires unmarked { input.old.failed ≡ false }
         requires key { length key.now ≡ PK_LEN }
         requires few { count ≤ 65535 }
@@ -250,7 +245,7 @@ where
         context: &[u8],
         count: usize,
         input: &mut Marked<I>,
-    ) -> Result<Output, RunFault>
+    ) -> Result<Reply, RunFault>
         requires unmarked { input.old.failed ≡ false }
         requires few { count ≤ 65535 }
         ensures read_failed { IsTrue input.new.failed ↔ (result ≡ Err RunFault.Read) }
@@ -260,7 +255,7 @@ where
         ensures stops { IfErr result (StopsAt I.remaining input.old input.new 4 (entry_lines SIG_LEN count)) }
         ensures faults { IfErr result (λ fault. IsInputFault fault) }
     {
-        let mut output = Output {
+        let mut output = Reply {
             text: Vec::new(alloc),
             success: true,
         };
@@ -310,6 +305,14 @@ fn fields(lines: &[Vec<u8>]) -> [&[u8]; 4]
         lines[2].as_slice(),
         lines[3].as_slice(),
     ]
+}
+
+/// A line of a known number of bytes as an array.
+fn array_of<const N: usize>(bytes: &[u8]) -> &[u8; N]
+    requires { length bytes.now ≡ N }
+    ensures { result.now ≡ bytes.now }
+{
+    bytes.as_array::<N>().unwrap()
 }
 
 /// The number that two bytes spell, the high byte first.

@@ -3,19 +3,26 @@
 
 ghost use Rattle.std.specs.Prelude.{◌≡◌, ◌↔◌, false, Err, IsTrue, IfOk, IfErr, map, string_bytes};
 ghost use Rattle.mldsa_engine.specs.Calls.{AreNoCall};
-ghost use Rattle.mldsa_lines.specs.Devices.{KeepsWritten};
-ghost use Rattle.mldsa_lines.specs.Lines.{IsLineFault};
+ghost use Rattle.mldsa_engine.specs.Devices.{KeepsWritten};
+ghost use Rattle.mldsa_engine.specs.Lines.{IsLineFault};
 ghost use Rattle.mldsa_engine.specs.ProgramText.{RunsOver, RunsCall, FaultOfRun, FaultOfCall, RunInTurn, CallInTurn};
 
 mod answers;
+pub mod bytewise;
 pub mod call;
+pub mod fault;
+pub mod lines;
+pub mod marked;
+pub mod output;
 pub mod process;
 
-use answers::{Output, execute};
+use answers::{Reply, execute};
+pub use bytewise::Bytewise;
 pub use call::{Streams, Task};
+pub use fault::RunFault;
 pub use fips204::SetName;
 use fips204::xof::{Fill, Sha256Ctr, Sha512Ctr, Xof};
-pub use mldsa_lines::{Bytewise, Marked, RunFault, output};
+pub use marked::Marked;
 use std::alloc::Global;
 use std::io::{Read, Write};
 
@@ -42,7 +49,7 @@ pub fn run<H: Xof, G: Xof, I: Read, O: Write>(
     ensures nothing_written { IfErr result (λ fault. ¬ (fault ≡ RunFault.Write) → KeepsWritten O.contents output.old output.new) }
     ensures no_usage { ¬ (result ≡ Err RunFault.Usage) }
 {
-    let Output { text, success } = execute::<H, G, I>(alloc, task, set, input)?;
+    let Reply { text, success } = execute::<H, G, I>(alloc, task, set, input)?;
     output::write_all(output, text.as_slice())?;
     Ok(success)
 }

@@ -5,8 +5,7 @@ ghost use Rattle.std.specs.Prelude.{◌≡◌, ◌⊎◌, Bool, false, Result, I
 ghost use Rattle.std.specs.Process.{exit_status};
 ghost use Rattle.mldsa_engine.specs.ProgramText.{AnswersCall, status_of};
 
-use crate::from_words;
-use mldsa_lines::{Marked, RunFault};
+use crate::{Marked, RunFault, from_words};
 use std::env;
 use std::io::{ErrorKind, Read, Write};
 use std::process::ExitCode;

@@ -1,4 +1,4 @@
-//! The code of the pages for users, and programs that users build over the library, to be copied.
+//! The code of the pages for users, and programs that users build over the library, to be copied; and tests over SHAKE.
 #![tactic(auto)]
 
 pub mod callers;
@@ -9,6 +9,8 @@ pub mod licence;
 pub mod manifest;
 #[cfg(test)]
 mod over_bytes;
+#[cfg(test)]
+mod over_shake;
 pub mod pieces;
 #[cfg(test)]
 mod tests;

@@ -2,7 +2,7 @@
 #![tactic(auto)]
 
 use fips204_shake::ml_dsa_65::{PK_LEN, SIG_LEN, SK_LEN};
-use fips204_shake::{Array, Fault, Input, MlDsa65, Refusal};
+use fips204_shake::{Buffer, Fault, Input, MlDsa65, Refusal};
 use std::test::Fail;
 
 /// Both keys of a seed, as bytes to store.
@@ -35,7 +35,7 @@ fn a_stored_pair_over_bytes(rt: HostRuntime) -> Result<(), Fail> {
     assert!(rt; verified(&public_key, b"a message", &signature)?);
     assert!(rt; !verified(&public_key, b"another", &signature)?);
     let cut = verified(&public_key[1..], b"a message", &signature);
-    assert!(rt; cut == Err(Refusal::Length(Array::PublicKey)));
+    assert!(rt; cut == Err(Refusal::Length(Buffer::PublicKey)));
     let no_key = signed(&[0xff; SK_LEN], &[9; 32], b"a message");
     assert!(rt; no_key == Err(Refusal::Library(Fault::KeyRange)));
     Ok(())

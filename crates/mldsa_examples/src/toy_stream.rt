@@ -1,4 +1,4 @@
-//! XOFs of one's own, as docs/STREAMS.md shows them: a hash in counter mode, an output that a function fills, and a reader that
+//! XOFs of one's own, as docs/RATTLE.md shows them: a hash in counter mode, an output that a function fills, and a reader that
 //! wraps another.
 #![tactic(auto)]
 

@@ -5,17 +5,17 @@ use Rattle.fips204.specs.Packing.{bit_length}
 use Rattle.fips204.specs.Sets.{named_set}
 use Rattle.fips204.specs.declared.sets.SetName.{SetName}
 use Rattle.fips204.specs.declared.sets.SetName.TheVariants.{MlDsa44, MlDsa65, MlDsa87}
-use Rattle.fips204_der.specs.Keys.{PrivateParts as FileParts, Seed, Expanded, Both, HasPrivateSizes, public_length, private_length}
-use Rattle.mlsign_files.specs.Lax.{strict_form}
-use Rattle.mlsign_files.specs.Pem.{IsPem}
-use Rattle.mlsign_files.specs.Faults.{of_der}
-use Rattle.mlsign_files.specs.declared.pem.Kind.{Kind}
-use Rattle.mlsign_files.specs.declared.pem.Kind.TheVariants.{Public, Private}
-use Rattle.mlsign_files.specs.declared.pem.LineEnd.TheVariants.{Lf}
-use Rattle.fips204_der.proofs.Elements.{ok_is}
-use Rattle.fips204_der.proofs.KeyFiles.{public_of_file, private_of_file}
-use Rattle.mlsign_files.proofs.LaxTexts.{strict_of_text, strict_is_lf}
-use Rattle.mlsign_files.proofs.PemFiles.{pem_of_text}
+use Rattle.fips204_shake.specs.Keys.{PrivateParts as FileParts, Seed, Expanded, Both, HasPrivateSizes, public_length, private_length}
+use Rattle.mlsign_engine.specs.Lax.{strict_form}
+use Rattle.mlsign_engine.specs.Pem.{IsPem}
+use Rattle.mlsign_engine.specs.Faults.{of_der}
+use Rattle.mlsign_engine.specs.declared.pem.Kind.{Kind}
+use Rattle.mlsign_engine.specs.declared.pem.Kind.TheVariants.{Public, Private}
+use Rattle.mlsign_engine.specs.declared.pem.LineEnd.TheVariants.{Lf}
+use Rattle.fips204_shake.proofs.Elements.{ok_is}
+use Rattle.fips204_shake.proofs.KeyFiles.{public_of_file, private_of_file}
+use Rattle.mlsign_engine.proofs.LaxTexts.{strict_of_text, strict_is_lf}
+use Rattle.mlsign_engine.proofs.PemFiles.{pem_of_text}
 use Rattle.mlsign_engine.specs.Commands.{FailsPrivate, IsSigned, Judges, FilesBelong, MadeFilesBelong}
 use Rattle.mlsign_engine.specs.Forms.{IsRaw, IsPublicIn, IsPrivateIn, read_as, HasPublic, HasPrivate, public_in, private_in, ConvertsPrivate}
 use Rattle.mlsign_engine.specs.InnerSteps.{HasNoKeysOrMemory}

@@ -19,13 +19,13 @@ use Rattle.fips204.specs.Signing.{sign}
 use Rattle.fips204.specs.Sets.{named_set}
 use Rattle.fips204.specs.declared.sets.SetName.{SetName}
 use Rattle.fips204.specs.declared.sets.SetName.TheVariants.{MlDsa44, MlDsa65, MlDsa87}
-use Rattle.fips204_bytes.specs.Bytes as bytes
-use Rattle.fips204_bytes.specs.Prepared.{PreparesPublic, PreparesPrivate}
-use Rattle.fips204_bytes.specs.declared.refusal.Array.TheVariants.{Signature}
-use Rattle.fips204_bytes.specs.declared.refusal.Refusal.{Refusal}
-use Rattle.fips204_bytes.specs.declared.refusal.Refusal.TheVariants as refusal
+use Rattle.fips204_shake.specs.Bytes as bytes
+use Rattle.fips204_shake.specs.Prepared.{PreparesPublic, PreparesPrivate}
+use Rattle.fips204_shake.specs.declared.bytes.refusal.Buffer.TheVariants.{Signature}
+use Rattle.fips204_shake.specs.declared.bytes.refusal.Refusal.{Refusal}
+use Rattle.fips204_shake.specs.declared.bytes.refusal.Refusal.TheVariants as refusal
 use Rattle.fips204_shake.specs.Fronts.{shake256_front, shake128_front, length-shake256_front}
-use Rattle.fips204_der.specs.Keys.{PrivateParts as FileParts, Seed, Expanded, Both, HasPrivateSizes}
+use Rattle.fips204_shake.specs.Keys.{PrivateParts as FileParts, Seed, Expanded, Both, HasPrivateSizes}
 use Rattle.mlsign_engine.specs.Commands.{HasNoKeys, IsRefused, FailsToGenerate, IsValid, IsValidUnder, IsSigned, CannotSign, SignedIsValid}
 use Rattle.mlsign_engine.specs.InnerSteps.{HasPrivateBytes, HasNoKeysOrMemory}
 use Rattle.mlsign_engine.specs.Keys.{HasKeys, HasBytes}

@@ -8,8 +8,8 @@ use Rattle.fips204.specs.Refusals.{generated, derived, sign_input, VerifiesInput
 use Rattle.fips204.specs.Framing.{plain}
 use Rattle.fips204.specs.Prepared.{prepared_public}
 use Rattle.fips204.specs.declared.sets.SetName.{SetName}
-use Rattle.fips204_bytes.specs.declared.refusal.Refusal.{Refusal}
-use Rattle.fips204_bytes.specs.declared.refusal.Refusal.TheVariants as refusal
+use Rattle.fips204_shake.specs.declared.bytes.refusal.Refusal.{Refusal}
+use Rattle.fips204_shake.specs.declared.bytes.refusal.Refusal.TheVariants as refusal
 use Rattle.fips204_shake.specs.Fronts.{shake256_front, shake128_front}
 use Rattle.mlsign_engine.specs.Forms.{IsPublicIn, IsPrivateIn, read_as, HasPublic, HasPrivate, public_in, private_in, ConvertsPrivate}
 use Rattle.mlsign_engine.specs.Keys.{PublicValue, PairValue, HasKeys, HasBytes, IsConsistent, public_of_pair}
@@ -21,11 +21,11 @@ use Rattle.mlsign_engine.specs.declared.forms.Form.TheVariants.{Pem}
 use Rattle.mlsign_engine.specs.declared.forms.Parts.TheVariants.{Kept}
 use Rattle.mlsign_engine.specs.declared.keys.AnyKey.{AnyKey}
 use Rattle.mlsign_engine.specs.declared.keys.AnyKey.TheVariants as key
-use Rattle.fips204_der.specs.Keys.{PrivateParts as FileParts, Seed, Expanded, Both}
-use Rattle.mlsign_files.specs.PemReading.{FailsLike}
-use Rattle.mlsign_files.specs.declared.fault.FileFault.{FileFault}
-use Rattle.mlsign_files.specs.declared.fault.FileFault.TheVariants.{OtherKind}
-use Rattle.mlsign_files.specs.declared.pem.Kind.TheVariants.{Public, Private}
+use Rattle.fips204_shake.specs.Keys.{PrivateParts as FileParts, Seed, Expanded, Both}
+use Rattle.mlsign_engine.specs.PemReading.{FailsLike}
+use Rattle.mlsign_engine.specs.declared.fault.FileFault.{FileFault}
+use Rattle.mlsign_engine.specs.declared.fault.FileFault.TheVariants.{OtherKind}
+use Rattle.mlsign_engine.specs.declared.pem.Kind.TheVariants.{Public, Private}
 
 -- an error of the calls over bytes as a fault; a wrong length is that of a key which belongs to no parameter set
 abbrev pub fault_of : Refusal → CommandFault

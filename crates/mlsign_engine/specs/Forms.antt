@@ -10,17 +10,17 @@ use Rattle.mlsign_engine.specs.declared.forms.Form.{Form}
 use Rattle.mlsign_engine.specs.declared.forms.Form.TheVariants.{Pem, Der, Raw}
 use Rattle.mlsign_engine.specs.declared.forms.Parts.{Parts}
 use Rattle.mlsign_engine.specs.declared.forms.Parts.TheVariants as part
-use Rattle.fips204_der.specs.Keys.{IsPublicFile, IsPrivateFile, PrivateParts as FileParts, Seed, Expanded, Both, HasPrivateSizes, public_length, private_length, seed_length}
-use Rattle.mlsign_files.specs.Lax.{strict_form}
-use Rattle.mlsign_files.specs.Pem.{IsPem}
-use Rattle.mlsign_files.specs.PemReading.{pem_at}
-use Rattle.fips204_der.specs.Reading.{◌>>=◌, sized_at, public_at, private_at}
-use Rattle.fips204_der.specs.declared.fault.DerFault.TheVariants.{KeyLength}
-use Rattle.mlsign_files.specs.Faults.{of_der}
-use Rattle.mlsign_files.specs.declared.fault.FileFault.{FileFault}
-use Rattle.mlsign_files.specs.declared.fault.FileFault.TheVariants as fault
-use Rattle.mlsign_files.specs.declared.pem.Kind.{Kind}
-use Rattle.mlsign_files.specs.declared.pem.Kind.TheVariants.{Public, Private}
+use Rattle.fips204_shake.specs.Keys.{IsPublicFile, IsPrivateFile, PrivateParts as FileParts, Seed, Expanded, Both, HasPrivateSizes, public_length, private_length, seed_length}
+use Rattle.mlsign_engine.specs.Lax.{strict_form}
+use Rattle.mlsign_engine.specs.Pem.{IsPem}
+use Rattle.mlsign_engine.specs.PemReading.{pem_at}
+use Rattle.fips204_shake.specs.Reading.{◌>>=◌, sized_at, public_at, private_at}
+use Rattle.fips204_shake.specs.declared.der.fault.DerFault.TheVariants.{KeyLength}
+use Rattle.mlsign_engine.specs.Faults.{of_der}
+use Rattle.mlsign_engine.specs.declared.fault.FileFault.{FileFault}
+use Rattle.mlsign_engine.specs.declared.fault.FileFault.TheVariants as fault
+use Rattle.mlsign_engine.specs.declared.pem.Kind.{Kind}
+use Rattle.mlsign_engine.specs.declared.pem.Kind.TheVariants.{Public, Private}
 
 -- a text in the strict form has this public key
 pub record IsPublicText (text : List ℕ) (algorithm : SetName) (bytes : List ℕ) : Type 0 where

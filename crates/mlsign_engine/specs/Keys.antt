@@ -6,11 +6,11 @@ use Rattle.fips204.specs.ParameterSets.{ParameterSet, public_key_length, private
 use Rattle.fips204.specs.Refusals.{generated}
 use Rattle.fips204.specs.Sets.{named_set}
 use Rattle.fips204.specs.declared.sets.SetName.{SetName}
-use Rattle.fips204_bytes.specs.Prepared.{PreparesPublic, PreparesPrivate}
+use Rattle.fips204_shake.specs.Prepared.{PreparesPublic, PreparesPrivate}
 use Rattle.fips204_shake.specs.Fronts.{shake256_front, shake128_front}
 use Rattle.mlsign_engine.specs.declared.keys.Held.{Held}
 use Rattle.mlsign_engine.specs.declared.keys.Held.TheVariants as held
-use Rattle.fips204_der.specs.Keys.{PrivateParts as FileParts, Seed, Expanded, Both, HasPrivateSizes}
+use Rattle.fips204_shake.specs.Keys.{PrivateParts as FileParts, Seed, Expanded, Both, HasPrivateSizes}
 
 -- a public key: its parameter set and its bytes
 pub record PublicValue : Type 0 where

@@ -1,3 +1,7 @@
+pub mod Faults
+pub mod Pem
+pub mod PemReading
+pub mod Lax
 pub mod Messages
 pub mod Keys
 pub mod Forms

@@ -1,27 +1,21 @@
-//! Callers of the laws, and of clauses of `mlsign_files` and `fips204_der` which say that a key of a file is read: no code calls them.
+//! Never called: a weakened law must break one of these proofs.
 #![tactic(auto)]
 
 ghost use Rattle.std.specs.Prelude.{◌≡◌, ℕ, List, Bool, IfOk, IsTrue, Ok};
 ghost use Rattle.fips204.specs.Sets.{named_set};
 ghost use Rattle.fips204.specs.declared.sets.SetName.{SetName as Name};
-ghost use Rattle.fips204_der.specs.Keys.{IsPrivateFile, IsPublicFile, PrivateParts, private_parts};
-ghost use Rattle.fips204_der.specs.Reading.{Gives};
+ghost use Rattle.fips204_shake.specs.Keys.{PrivateParts};
 ghost use Rattle.mlsign_engine.specs.Commands.{IsSigned, Judges, MakesTexts};
 ghost use Rattle.mlsign_engine.specs.Forms.{HasPrivate, HasPublic, IsPublicIn, public_in, private_in, read_as};
 ghost use Rattle.mlsign_engine.specs.Keys.{IsConsistent, PairValue, PublicValue, public_of_pair};
 ghost use Rattle.mlsign_engine.specs.declared.forms.Form.{Form};
-ghost use Rattle.mlsign_files.specs.Pem.{IsPem, pem};
-ghost use Rattle.mlsign_files.specs.PemReading.{GivesOrFails};
-ghost use Rattle.mlsign_files.specs.declared.pem.Kind.TheVariants.{Public, Private};
-ghost use Rattle.mlsign_files.specs.declared.pem.LineEnd.TheVariants.{Lf};
+ghost use Rattle.mlsign_engine.specs.declared.pem.Kind.TheVariants.{Public};
 
 use crate::fault::CommandFault;
-use crate::forms::{Form, Parts, read_private_key, read_public_key};
+use crate::forms::{Form, read_public_key};
 use crate::laws::{converted_comes_back, keys_are_read, signed_is_valid};
-use fips204_der::{DerFault, PrivateKey, SetName, read_private, read_public};
-use mlsign_files::pem::{self, Kind};
-use mlsign_files::{FileFault, strict_form};
-use std::alloc::{AllocError, Global};
+use fips204_shake::der::SetName;
+use std::alloc::Global;
 
 /// Which keys accept what is signed with the private key of a file, and which keys files have.
 pub(crate) fn valid_parts()
@@ -47,54 +41,7 @@ pub(crate) fn valid_parts()
     keys_are_read();
 }
 
-/// The public key that DER has is read.
-pub(crate) fn public_key_of(der: &[u8]) -> Result<(SetName, &[u8]), DerFault>
-    ensures { (set : Name) (bytes : List ℕ) → IsPublicFile der.now set bytes
-        → Gives {Y = Name × List ℕ} (λ x. (x.0, x.1.now)) result (Ok (set, bytes)) }
-{
-    read_public(der)
-}
-
-/// The private key that DER has is read.
-pub(crate) fn private_key_of(der: &[u8]) -> Result<(SetName, PrivateKey<'_>), DerFault>
-    ensures { (set : Name) (parts : PrivateParts) → IsPrivateFile der.now set parts
-        → Gives {Y = Name × PrivateParts} (λ x. (x.0, private_parts x.1)) result (Ok (set, parts)) }
-{
-    read_private(der)
-}
-
-/// The DER that a text spells is read, unless memory runs out.
-pub(crate) fn der_of(alloc: Global, kind: Kind, text: &[u8]) -> Result<Vec<u8>, FileFault>
-    ensures { (der : List ℕ) → IsPem text.now kind der → GivesOrFails {Y = List ℕ} (λ x. x.items) result (Ok der) }
-{
-    pem::decode(alloc, kind, text)
-}
-
-/// A text in the strict form stays in it.
-pub(crate) fn strict(alloc: Global, kind: Kind, text: &[u8]) -> Result<Vec<u8>, AllocError>
-    ensures { (der : List ℕ) → IsPem text.now kind der → IfOk result (λ out. out.items ≡ pem kind Lf der) }
-{
-    strict_form(alloc, kind, text)
-}
-
-/// The file of a private key, converted to another form and back.
-pub(crate) fn private_back(
-    alloc: Global,
-    form: Form,
-    other: Form,
-    set: SetName,
-    file: &[u8],
-) -> Result<Vec<u8>, CommandFault>
-    ensures { IfOk result (λ again. read_as form Private again.items ≡ read_as form Private file.now) }
-{
-    converted_comes_back();
-    let first = read_private_key(alloc, form, set, file)?;
-    let between = first.file(alloc, other, Parts::Kept)?;
-    let second = read_private_key(alloc, other, first.algorithm(), between.as_slice())?;
-    second.file(alloc, form, Parts::Kept)
-}
-
-/// And that of a public key.
+/// The file of a public key, converted to another form and back: what is read of it is as it was.
 pub(crate) fn public_back(
     alloc: Global,
     form: Form,

@@ -13,7 +13,7 @@ use crate::message::message_mu;
 use crate::prepared::{SigningKey, VerifyingKey};
 use crate::source::Source;
 use fips204::{SetName, laws};
-use fips204_der::PrivateKey;
+use fips204_shake::der::PrivateKey;
 use std::alloc::Global;
 
 /// The most bytes of a context.

@@ -2,11 +2,11 @@
 #![tactic(auto)]
 
 ghost use Rattle.std.specs.Prelude.{◌≡◌, length, Some, IfOk, IfErr};
-ghost use Rattle.fips204_der.specs.Keys.{HasPrivateSizes, IsPublicFile, IsPrivateFile, private_length, private_parts, public_length};
-ghost use Rattle.fips204_der.specs.Keys.{private_file_length};
-ghost use Rattle.fips204_der.specs.Reading.{Gives, public_at};
-ghost use Rattle.mlsign_files.specs.Faults.{of_der};
-ghost use Rattle.mlsign_files.specs.PemReading.{GivesOrFails};
+ghost use Rattle.fips204_shake.specs.Keys.{HasPrivateSizes, IsPublicFile, IsPrivateFile, private_length, private_parts, public_length};
+ghost use Rattle.fips204_shake.specs.Keys.{private_file_length};
+ghost use Rattle.fips204_shake.specs.Reading.{Gives, public_at};
+ghost use Rattle.mlsign_engine.specs.Faults.{of_der};
+ghost use Rattle.mlsign_engine.specs.PemReading.{GivesOrFails};
 ghost use Rattle.mlsign_engine.specs.Commands.{FailsPrivate, HasKey, FailsToHaveKey};
 ghost use Rattle.mlsign_engine.specs.Forms.{HasPublic, HasPrivate, IsPublicIn, IsPrivateIn, IsRaw, public_in, raw_private_at};
 ghost use Rattle.mlsign_engine.specs.Forms.{parts_as, CanBe, ConvertsPrivate, FailsToConvert};
@@ -14,14 +14,14 @@ ghost use Rattle.mlsign_engine.specs.Keys.{IsConsistent};
 ghost use Rattle.mlsign_engine.specs.declared.fault.CommandFault.TheVariants.{Memory};
 ghost use Rattle.mlsign_engine.specs.declared.forms.Form.TheVariants.{Raw};
 
-use crate::fault::CommandFault;
+use crate::fault::{CommandFault, FileFault};
 use crate::keys::{AnyKey, KeyPair, PublicKey};
-use fips204_der::{
+use crate::lax::strict_form;
+use crate::pem::{self, Kind};
+use fips204_shake::der::{
     DerFault, PrivateKey, SEED_LENGTH, SetName, read_private, read_public, write_private,
     write_public,
 };
-use mlsign_files::pem::{self, Kind};
-use mlsign_files::{FileFault, strict_form};
 use std::alloc::{AllocError, Global};
 
 /// How a file has a key.
@@ -196,7 +196,7 @@ fn raw_of(alloc: Global, key: PrivateKey<'_>) -> Result<Vec<u8>, AllocError>
 }
 
 /// How many bytes the file in DER of a private key has.
-#[tactic(auto, using(fips204_der::proofs::KeyFiles::private_small))]
+#[tactic(auto, using(fips204_shake::proofs::KeyFiles::private_small))]
 fn private_file_len(algorithm: SetName, key: PrivateKey<'_>) -> usize
     ensures { result ≡ private_file_length (private_length algorithm) (private_parts key.entry) }
 {

@@ -7,15 +7,15 @@ ghost use Rattle.fips204_shake.specs.Fronts.{shake256_front};
 ghost use Rattle.mlsign_engine.specs.Keys.{HasBytes, IsConsistent, public_of_pair};
 ghost use Rattle.mlsign_engine.specs.InnerSteps.{HasPrivateBytes, HasNoKeysOrMemory};
 ghost use Rattle.mlsign_engine.specs.declared.fault.CommandFault.TheVariants.{Memory};
-ghost use Rattle.fips204_der.specs.Keys.{Seed, Expanded, HasPrivateSizes, private_length, public_length, private_parts};
+ghost use Rattle.fips204_shake.specs.Keys.{Seed, Expanded, HasPrivateSizes, private_length, public_length, private_parts};
 
 use crate::fault::CommandFault;
 use fips204::laws;
 use fips204::xof::hash;
-use fips204_bytes::array_of;
-use fips204_der::PrivateKey;
+use fips204_shake::bytes::array_of;
+use fips204_shake::der::PrivateKey;
 use fips204_shake::streams::Shake256Stream;
-use fips204_shake::{MlDsa, SetName};
+use fips204_shake::{AnySet, SetName};
 use std::alloc::Global;
 use std::marker::Model;
 
@@ -29,7 +29,7 @@ pub struct PublicKey {
 impl Model for PublicKey {
     ghost use Rattle.std.specs.Prelude.{◌≡◌, length};
     ghost use Rattle.mlsign_engine.specs.Keys.{PublicValue};
-    ghost use Rattle.fips204_der.specs.Keys.{public_length};
+    ghost use Rattle.fips204_shake.specs.Keys.{public_length};
 
     ghost Value = { PublicValue };
 
@@ -223,7 +223,7 @@ fn generated(alloc: Global, set: SetName, seed: &[u8]) -> Result<(Vec<u8>, Vec<u
     let mut private = vec![in alloc; 0; set.private_key_len()]?;
     let first = public.as_mut_slice();
     let second = private.as_mut_slice();
-    MlDsa::keygen(set, &seed, first, second)?;
+    AnySet::keygen(set, &seed, first, second)?;
     Ok((public, private))
 }
 
@@ -236,7 +236,7 @@ fn derived(alloc: Global, set: SetName, expanded: &[u8]) -> Result<Vec<u8>, Comm
     check_expanded(set, expanded)?;
     let mut public = vec![in alloc; 0; set.public_key_len()]?;
     let bytes = public.as_mut_slice();
-    MlDsa::public_key(set, expanded, bytes).unwrap();
+    AnySet::public_key(set, expanded, bytes).unwrap();
     Ok(public)
 }
 
@@ -247,10 +247,10 @@ fn check_expanded(set: SetName, expanded: &[u8]) -> Result<(), CommandFault>
     ensures fault { IfErr result (HasNoKeysOrMemory (named_set set) (Expanded expanded.now)) }
 {
     laws::key_bytes();
-    if MlDsa::check_private_key(set, expanded).is_err() {
+    if AnySet::check_private_key(set, expanded).is_err() {
         return Err(CommandFault::Inconsistent);
     }
-    if !MlDsa::is_pair(set, expanded)? {
+    if !AnySet::is_pair(set, expanded)? {
         return Err(CommandFault::Inconsistent);
     }
     Ok(())

@@ -6,7 +6,7 @@ ghost use Rattle.fips204.specs.declared.sets.SetName.{SetName};
 ghost use Rattle.mlsign_engine.specs.Commands.{SignedIsValid, FilesBelong, MadeFilesBelong, ComeBack};
 ghost use Rattle.mlsign_engine.specs.Forms.{HasPublic, HasPrivate, public_in, private_in};
 ghost use Rattle.mlsign_engine.specs.declared.forms.Form.{Form};
-ghost use Rattle.fips204_der.specs.Keys.{PrivateParts};
+ghost use Rattle.fips204_shake.specs.Keys.{PrivateParts};
 
 /// The key that a file has in a form is what is read of it.
 pub fn keys_are_read()

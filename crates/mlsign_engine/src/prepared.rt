@@ -4,8 +4,8 @@
 ghost use Rattle.std.specs.Prelude.{◌≡◌, ◌≤◌, length, take, drop, IfOk, IfErr};
 ghost use Rattle.fips204.specs.Framing.{represented};
 ghost use Rattle.fips204.specs.Sets.{named_set};
-ghost use Rattle.fips204_bytes.specs.Bytes.{Signs, Judges};
-ghost use Rattle.fips204_der.specs.Keys.{public_length};
+ghost use Rattle.fips204_shake.specs.Bytes.{Signs, Judges};
+ghost use Rattle.fips204_shake.specs.Keys.{public_length};
 ghost use Rattle.fips204_shake.specs.Fronts.{shake256_front, shake128_front};
 ghost use Rattle.mlsign_engine.specs.Commands.{FailsToPrepare};
 ghost use Rattle.mlsign_engine.specs.Keys.{IsConsistent};
@@ -13,8 +13,8 @@ ghost use Rattle.mlsign_engine.specs.declared.fault.CommandFault.TheVariants.{Me
 
 use crate::fault::CommandFault;
 use crate::keys::{KeyPair, PublicKey};
-use fips204_bytes::laws;
-use fips204_shake::{Input, MlDsa, Refusal, SetName};
+use fips204_shake::bytes::laws;
+use fips204_shake::{AnySet, Input, Refusal, SetName};
 use std::alloc::Global;
 use std::marker::Model;
 
@@ -46,7 +46,7 @@ impl SigningKey {
         let set = pair.algorithm();
         let mut prepared = vec![in alloc; 0; set.prepared_private_key_len()]?;
         let room = prepared.as_mut_slice();
-        MlDsa::prepare_private_key(set, pair.private(), room).unwrap();
+        AnySet::prepare_private_key(set, pair.private(), room).unwrap();
         Ok(SigningKey { pair, prepared })
     }
 
@@ -77,7 +77,7 @@ impl SigningKey {
         laws::prepared_stands_for_plain();
         let set = self.pair.algorithm();
         let prepared = self.prepared.as_slice();
-        MlDsa::sign_prepared(set, prepared, random, &Input::Mu(mu), signature)
+        AnySet::sign_prepared(set, prepared, random, &Input::Mu(mu), signature)
     }
 }
 
@@ -103,7 +103,7 @@ impl Model for VerifyingKey {
     ghost use Rattle.std.specs.Prelude.{◌≡◌, length, take};
     ghost use Rattle.fips204_shake.specs.Fronts.{shake256_front};
     ghost use Rattle.mlsign_engine.specs.Keys.{PublicValue, ArePreparedPublicOf};
-    ghost use Rattle.fips204_der.specs.Keys.{public_length};
+    ghost use Rattle.fips204_shake.specs.Keys.{public_length};
 
     ghost Value = { PublicValue };
 
@@ -124,7 +124,7 @@ impl VerifyingKey {
         let set = key.algorithm();
         let mut prepared = vec![in alloc; 0; set.prepared_public_key_len()]?;
         let room = prepared.as_mut_slice();
-        MlDsa::prepare_public_key(set, key.bytes(), room)?;
+        AnySet::prepare_public_key(set, key.bytes(), room)?;
         Ok(VerifyingKey {
             tr: key.hash(),
             key,
@@ -154,6 +154,6 @@ impl VerifyingKey {
         laws::prepared_stands_for_plain();
         let set = self.key.algorithm();
         let prepared = self.prepared.as_slice();
-        MlDsa::verify_prepared(set, prepared, &Input::Mu(mu), signature)
+        AnySet::verify_prepared(set, prepared, &Input::Mu(mu), signature)
     }
 }

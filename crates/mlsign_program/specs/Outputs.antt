@@ -6,7 +6,7 @@ use Rattle.fips204.specs.ParameterSets.{signature_length}
 use Rattle.fips204.specs.Sets.{named_set}
 use Rattle.mlsign_engine.specs.Commands.{MakesTexts}
 use Rattle.mlsign_engine.specs.Forms.{IsPrivateIn, IsPublicIn}
-use Rattle.fips204_der.specs.Keys.{PrivateParts}
+use Rattle.fips204_shake.specs.Keys.{PrivateParts}
 use Rattle.fips204.specs.declared.sets.SetName.{SetName}
 use Rattle.fips204.specs.declared.sets.SetName.TheVariants.{MlDsa44, MlDsa65, MlDsa87}
 use Rattle.mlsign_engine.specs.declared.forms.Form.{Form}

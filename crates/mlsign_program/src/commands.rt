@@ -21,10 +21,10 @@ use base64::engine::general_purpose::STANDARD_NO_PAD;
 use clap::ArgMatches;
 use either::Either;
 use fips204::SetName;
+use mlsign_engine::pem::Kind;
 use mlsign_engine::{
     AnyKey, CommandFault, Form, KeyFiles, KeyPair, Parts, PublicKey, Reader, SigningKey, Source,
 };
-use mlsign_files::pem::Kind;
 use sha2::{Digest, Sha256};
 use std::alloc::Global;
 use std::fs::{File, OpenFile};

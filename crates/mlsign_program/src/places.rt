@@ -5,9 +5,9 @@ ghost use Rattle.std.specs.Prelude.{◌≡◌, ℕ, List, IfOk, IsTrue, true, fa
 ghost use Rattle.mlsign_engine.specs.Commands.{MakesTexts};
 ghost use Rattle.fips204.specs.declared.sets.SetName.{SetName};
 ghost use Rattle.mlsign_engine.specs.declared.forms.Form.{Form};
-ghost use Rattle.fips204_der.specs.Keys.{IsPrivateFile, PrivateParts};
-ghost use Rattle.mlsign_files.specs.Lax.{kind_of_text};
-ghost use Rattle.mlsign_files.specs.declared.pem.Kind.TheVariants.{Private};
+ghost use Rattle.fips204_shake.specs.Keys.{IsPrivateFile, PrivateParts};
+ghost use Rattle.mlsign_engine.specs.Lax.{kind_of_text};
+ghost use Rattle.mlsign_engine.specs.declared.pem.Kind.TheVariants.{Private};
 ghost use Rattle.mlsign_program.specs.declared.places.Content.TheVariants.{PrivateKey, PublicKey};
 ghost use Rattle.mlsign_program.specs.Outputs.{Holds};
 
@@ -15,10 +15,9 @@ use crate::files::{note_open, read_start};
 use crate::labels::{has_private_label, is_other_private_key};
 use crate::text::{about, note};
 use anyhow::{Context, Error};
-use fips204_der::read_private;
-use mlsign_engine::KeyFiles;
-use mlsign_files::kind_of_text;
-use mlsign_files::pem::Kind;
+use fips204_shake::der::read_private;
+use mlsign_engine::pem::Kind;
+use mlsign_engine::{KeyFiles, kind_of_text};
 use std::alloc::AllocError;
 use std::fs::{self, File, Metadata, OpenFile, OpenOptions};
 use std::io::{self, ErrorKind, Write};

@@ -4,7 +4,7 @@
 use crate::commands::open;
 use crate::text::{about, printable};
 use crate::verify::{
-    Ends, VerifyingKey, accepts_list, read_signature, say_invalid, say_valid, tell_keys,
+    Ends, TrustedKey, accepts_list, read_signature, say_invalid, say_valid, tell_keys,
 };
 use anyhow::{Context, Error};
 use clap::ArgMatches;
@@ -33,7 +33,7 @@ struct Sum<'a> {
 pub(crate) fn verify_sums(
     rt: &HostRuntime,
     words: &ArgMatches<'_>,
-    keys: &mut [VerifyingKey<'_>],
+    keys: &mut [TrustedKey<'_>],
     path: &str,
 ) -> Result<bool, Error> {
     let signature = read_signature(rt, words, path)?;

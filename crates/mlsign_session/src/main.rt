@@ -1,6 +1,13 @@
 //! Tests of the program `mlsign`: carries out the calls that the lines of standard input make, one after another, and prints how
-//! each ended.
+//! each ended. The modules test what no such call shows.
 #![tactic(auto)]
+
+#[cfg(test)]
+mod faults;
+#[cfg(test)]
+mod files;
+#[cfg(test)]
+mod recorded;
 
 use anyhow::Result;
 use mlsign_program::{answer, line_of};

@@ -32,7 +32,7 @@ const fn text(status: u32) -> &'static str {
     }
 }
 
-/// The value where a call is done, and else the text of its status.
+/// The value if a call is done, and otherwise the text of its status.
 fn answer<T>(status: u32, value: T) -> Result<T, Error> {
     match status {
         0 => Ok(value),
@@ -55,7 +55,7 @@ where
     /// How many bytes the key's DER has.
     pub const DER_LEN: usize = PK + 22;
 
-    /// The key of a SubjectPublicKeyInfo in DER (RFC 9881, section 4).
+    /// Reads the key of a SubjectPublicKeyInfo in DER (RFC 9881, section 4).
     /// Takes `stack::DER` bytes of stack.
     ///
     /// # Errors
@@ -113,8 +113,8 @@ where
     /// How many bytes the DER of a seed and its key has.
     pub const BOTH_DER_LEN: usize = SK + 66;
 
-    /// The key of a OneAsymmetricKey (PKCS #8) in DER (RFC 9881, section 6), which is not encrypted: that of its seed, or
-    /// its expanded key.
+    /// Reads the key of a OneAsymmetricKey (PKCS #8) in DER (RFC 9881, section 6), which is not encrypted and has a seed,
+    /// an expanded key, or both.
     /// Takes `stack::DER` bytes of stack.
     ///
     /// # Errors
@@ -139,7 +139,7 @@ where
         answer(status, key)
     }
 
-    /// The seed of a private key in DER, of which `keygen_from_seed` makes it.
+    /// Reads the seed of a private key in DER; `keygen_from_seed` makes the key from it.
     /// Takes `stack::DER` bytes of stack.
     ///
     /// # Errors
@@ -161,7 +161,7 @@ where
         answer(status, seed)
     }
 
-    /// A private key in DER by its seed, which is all that has to be stored.
+    /// A private key in DER, as its seed. That is all you have to store.
     /// Takes `stack::DER` bytes of stack.
     ///
     /// # Errors
@@ -183,7 +183,7 @@ where
         answer(status, der)
     }
 
-    /// Writes the key as a OneAsymmetricKey in DER by its expanded key, of `DER_LEN` bytes.
+    /// Writes the key as a OneAsymmetricKey in DER, as its expanded key, of `DER_LEN` bytes.
     /// Takes `stack::DER` bytes of stack.
     ///
     /// # Errors
@@ -206,7 +206,7 @@ where
         written(key, der::private_key_to_der(Self::SET, key, der))
     }
 
-    /// Writes a private key in DER by its seed and the expanded key that it generates, of `BOTH_DER_LEN` bytes.
+    /// Writes a private key in DER, as its seed and the expanded key that the seed generates, of `BOTH_DER_LEN` bytes.
     /// Takes `stack::DER` bytes of stack.
     ///
     /// # Errors
@@ -338,7 +338,7 @@ mod pem {
     where
         Set<PK, SK, SIG>: Named,
     {
-        /// The key of a file in PEM, as `mlsign` and OpenSSL write it.
+        /// Reads the key of a file in PEM, as `mlsign` and OpenSSL write it.
         /// Takes `stack::DER` bytes of stack.
         ///
         /// # Errors
@@ -387,8 +387,8 @@ mod pem {
     where
         Set<PK, SK, SIG>: Named,
     {
-        /// The key of a file in PEM, which is not encrypted, as `mlsign` and OpenSSL write it. The DER that is made on the
-        /// way is wiped; the text is yours.
+        /// Reads the key of a file in PEM, which is not encrypted, as `mlsign` and OpenSSL write it. The DER that is made on
+        /// the way is wiped; the text is yours to wipe.
         /// Takes `stack::DER` bytes of stack.
         ///
         /// # Errors
@@ -409,7 +409,7 @@ mod pem {
             Self::from_der(&decode(PRIVATE, text)?.0)
         }
 
-        /// The seed of a private key in PEM, of which `keygen_from_seed` makes it.
+        /// Reads the seed of a private key in PEM; `keygen_from_seed` makes the key from it.
         /// Takes `stack::DER` bytes of stack.
         ///
         /// # Errors
@@ -429,7 +429,7 @@ mod pem {
             Self::seed_from_der(&decode(PRIVATE, text)?.0)
         }
 
-        /// The text of a private key's file by its seed, not encrypted. It is yours to wipe.
+        /// The text of a private key's file, as its seed, not encrypted. It is yours to wipe.
         /// Takes `stack::DER` bytes of stack.
         ///
         /// # Errors
@@ -456,7 +456,7 @@ mod pem {
             Ok(encode(PRIVATE, der.array()))
         }
 
-        /// The text of the key's file by its expanded key, not encrypted. It is yours to wipe.
+        /// The text of the key's file, as its expanded key, not encrypted. It is yours to wipe.
         /// Takes `stack::DER` bytes of stack.
         ///
         /// # Errors

@@ -1,6 +1,6 @@
 //! Why a call returns an error.
 
-use crate::proved::fips204_bytes::Refusal;
+use crate::proved::fips204_shake::bytes::Refusal;
 
 /// The error of each call with a key or a hasher that `zeroize` wiped.
 pub(crate) const WIPED: &str = "the key or the hasher was wiped";
@@ -17,8 +17,7 @@ fn text(refusal: Refusal) -> &'static str {
     }
 }
 
-/// The same, of a call with what a type of this crate holds. That has every length right but where it was wiped: then it gives no
-/// bytes.
+/// The same, of a call with what a type of this crate holds. Its length is right, unless it was wiped: then it gives no bytes.
 #[allow(dead_code)] // no set may be chosen
 pub(crate) fn why(refusal: Refusal) -> &'static str {
     match refusal {
@@ -37,7 +36,7 @@ impl core::error::Error for Refusal {}
 
 #[cfg(test)]
 mod tests {
-    use crate::proved::fips204_bytes::{Array, Fault, Refusal};
+    use crate::proved::fips204_shake::bytes::{Buffer, Fault, Refusal};
     use crate::proved::mldsa_c::{statuses::status_of_refusal, texts::mldsa_text_of};
 
     /// The texts are those that C has.
@@ -54,7 +53,7 @@ mod tests {
             Fault::KeyRange,
             Fault::SamplingLimit,
         ];
-        let others = [Refusal::Length(Array::Signature), Refusal::NotPrepared];
+        let others = [Refusal::Length(Buffer::Signature), Refusal::NotPrepared];
         for refusal in faults.map(Refusal::from).into_iter().chain(others) {
             let mut of_c = [0; 64];
             assert_eq!(mldsa_text_of(status_of_refusal(refusal), &mut of_c), 0);
@@ -86,7 +85,7 @@ mod tests {
 pub struct Error(&'static str);
 
 impl Error {
-    /// The text of the error, which is that of `mldsa_text` in C where the library rejected a call.
+    /// The text of the error. If the library rejected a call, it is the text that `mldsa_text` has in C.
     ///
     /// ```
     /// # #[cfg(feature = "ml-dsa-65")] {

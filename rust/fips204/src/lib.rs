@@ -58,15 +58,15 @@ pub mod ml_dsa_44 {
     crate::set::parameter_set!("ml_dsa_44", MlDsa44, 1312, 2560, 2420);
     crate::prepared::prepared_keys!("ml_dsa_44", 17760, 18944);
     crate::set::stack!(
-        KEYGEN: 57_344,
+        KEYGEN: 53_248,
         SIGN: 116_736,
-        VERIFY: 54_272,
+        VERIFY: 51_200,
         PUBLIC_KEY: 88_064,
         CHECK: 49_152,
         WHOLE: 72_704,
         PAIR: 75_776,
         PREPARE_PUBLIC_KEY: 39_936,
-        VERIFY_PREPARED: 48_128,
+        VERIFY_PREPARED: 43_008,
         PREPARE_PRIVATE_KEY: 63_488,
         SIGN_PREPARED: 116_736,
         DER: 78_848,
@@ -79,15 +79,15 @@ pub mod ml_dsa_65 {
     crate::set::parameter_set!("ml_dsa_65", MlDsa65, 1952, 4032, 3309);
     crate::prepared::prepared_keys!("ml_dsa_65", 32736, 34752);
     crate::set::stack!(
-        KEYGEN: 73_728,
+        KEYGEN: 71_680,
         SIGN: 153_600,
-        VERIFY: 66_560,
+        VERIFY: 64_512,
         PUBLIC_KEY: 126_976,
         CHECK: 69_632,
         WHOLE: 103_424,
         PAIR: 108_544,
         PREPARE_PUBLIC_KEY: 73_728,
-        VERIFY_PREPARED: 57_344,
+        VERIFY_PREPARED: 51_200,
         PREPARE_PRIVATE_KEY: 96_256,
         SIGN_PREPARED: 153_600,
         DER: 111_616,
@@ -108,7 +108,7 @@ pub mod ml_dsa_87 {
         WHOLE: 138_240,
         PAIR: 146_432,
         PREPARE_PUBLIC_KEY: 114_688,
-        VERIFY_PREPARED: 74_752,
+        VERIFY_PREPARED: 66_560,
         PREPARE_PRIVATE_KEY: 142_336,
         SIGN_PREPARED: 209_920,
         DER: 149_504,

@@ -2,7 +2,7 @@
 
 use crate::Error;
 use crate::error::{WIPED, why};
-use crate::proved::fips204_bytes::{Refusal, SetName};
+use crate::proved::fips204_shake::bytes::{Refusal, SetName};
 use crate::proved::fips204_shake::pieces::{self, SAVED_LEN};
 use crate::wiped::{Wiped, shows_nothing};
 

@@ -5,14 +5,14 @@
 #[cfg(any(feature = "ml-dsa-44", feature = "ml-dsa-65", feature = "ml-dsa-87"))]
 macro_rules! prepared_keys {
     ($name:literal, $public_len:literal, $private_len:literal) => {
-        /// A public key with its matrix, which verifies in less time, and is wiped when it is dropped. Its calls return what those of
-        /// the key return that it was made of.
+        /// A public key with its matrix, which verifies in less time, and is wiped when it is dropped. Its calls return what the calls
+        /// of the plain key return.
         #[doc = concat!("It has ", stringify!($public_len), " bytes, which are where those of a private key are.")]
         #[derive(Clone)]
         pub struct PreparedPublicKey(Held<{ $public_len }>);
 
-        /// A private key with its matrix, which signs in less time, and is wiped when it is dropped. Its calls return what those of
-        /// the key return that it was made of.
+        /// A private key with its matrix, which signs in less time, and is wiped when it is dropped. Its calls return what the calls
+        /// of the plain key return.
         #[doc = concat!("It has ", stringify!($private_len), " bytes.")]
         #[derive(Clone)]
         pub struct PreparedPrivateKey(Held<{ $private_len }>);
@@ -24,7 +24,7 @@ macro_rules! prepared_keys {
             /// Samples the matrix once, for many verifications. Takes [`stack::PREPARE_PUBLIC_KEY`] bytes of stack.
             ///
             /// # Panics
-            /// The key was wiped; or rejection sampling reached its limit, for which no key is known.
+            /// The key was wiped; or rejection sampling reached its limit; nobody knows such a key.
             ///
             /// ```
             #[doc = concat!("use fips204::", $name, "::KG;")]
@@ -42,7 +42,7 @@ macro_rules! prepared_keys {
             pub fn prepare(&self) -> PreparedPublicKey {
                 let mut prepared = PreparedPublicKey(held());
                 let place = prepared.0.array_mut();
-                let made = MlDsa::prepare_public_key(Self::SET, self.0.given(), place);
+                let made = AnySet::prepare_public_key(Self::SET, self.0.given(), place);
                 made.map_err(why).unwrap();
                 prepared
             }
@@ -52,7 +52,7 @@ macro_rules! prepared_keys {
             /// Samples the matrix once, for many signatures. Takes [`stack::PREPARE_PRIVATE_KEY`] bytes of stack.
             ///
             /// # Panics
-            /// The key was wiped; or rejection sampling reached its limit, for which no key is known.
+            /// The key was wiped; or rejection sampling reached its limit; nobody knows such a key.
             ///
             /// ```
             #[doc = concat!("use fips204::", $name, "::KG;")]
@@ -70,14 +70,14 @@ macro_rules! prepared_keys {
             pub fn prepare(&self) -> PreparedPrivateKey {
                 let mut prepared = PreparedPrivateKey(held());
                 let place = prepared.0.array_mut();
-                let made = MlDsa::prepare_private_key(Self::SET, self.0.given(), place);
+                let made = AnySet::prepare_private_key(Self::SET, self.0.given(), place);
                 made.map_err(why).unwrap();
                 prepared
             }
         }
 
         impl PreparedPublicKey {
-            /// The key that this one was made of; if this one was wiped, one that was wiped too. Its bytes come first in a prepared key.
+            /// The key that this one was made from; if this one was wiped, a wiped one. Its bytes come first in a prepared key.
             ///
             /// ```
             #[doc = concat!("use fips204::", $name, "::KG;")]
@@ -136,7 +136,7 @@ macro_rules! prepared_keys {
             }
 
             fn accepts(&self, input: &Input<'_>, signature: &[u8; SIG_LEN]) -> bool {
-                MlDsa::verify_prepared(PublicKey::SET, self.0.given(), input, signature) == Ok(true)
+                AnySet::verify_prepared(PublicKey::SET, self.0.given(), input, signature) == Ok(true)
             }
         }
 
@@ -159,7 +159,7 @@ macro_rules! prepared_keys {
         }
 
         impl PreparedPrivateKey {
-            /// The key that this one was made of; if this one was wiped, one that was wiped too. Its bytes come first in a prepared key.
+            /// The key that this one was made from; if this one was wiped, a wiped one. Its bytes come first in a prepared key.
             ///
             /// ```
             #[doc = concat!("use fips204::", $name, "::KG;")]
@@ -201,7 +201,7 @@ macro_rules! prepared_keys {
             ///
             /// # Errors
             /// The generator failed; the key was wiped; all 814 attempts were rejected, as with a damaged key; or rejection
-            /// sampling reached its limit, for which no key is known.
+            /// sampling reached its limit; nobody knows such a key.
             ///
             /// ```
             #[doc = concat!("let (public, private) = fips204::", $name, "::try_keygen()?;")]
@@ -221,7 +221,7 @@ macro_rules! prepared_keys {
             ///
             /// # Errors
             /// The generator failed; the key was wiped; all 814 attempts were rejected, as with a damaged key; or rejection
-            /// sampling reached its limit, for which no key is known.
+            /// sampling reached its limit; nobody knows such a key.
             ///
             /// ```
             /// # use fips204::{CryptoRng, RngCore};
@@ -251,7 +251,7 @@ macro_rules! prepared_keys {
             ///
             /// # Errors
             /// The key was wiped; all 814 attempts were rejected, as with a damaged key; or rejection sampling reached its
-            /// limit, for which no key is known.
+            /// limit; nobody knows such a key.
             ///
             /// ```
             #[doc = concat!("use fips204::", $name, "::KG;")]
@@ -277,7 +277,7 @@ macro_rules! prepared_keys {
                 input: &Input<'_>,
             ) -> Result<[u8; SIG_LEN], &'static str> {
                 let key = self.0.given();
-                set::signed(|place| MlDsa::sign_prepared(PrivateKey::SET, key, random, input, place))
+                set::signed(|place| AnySet::sign_prepared(PrivateKey::SET, key, random, input, place))
             }
         }
 
@@ -305,7 +305,7 @@ macro_rules! prepared_keys {
             }
 
             /// # Panics
-            /// The key was wiped; or rejection sampling reached its limit, for which no key is known.
+            /// The key was wiped; or rejection sampling reached its limit; nobody knows such a key.
             fn get_public_key(&self) -> PublicKey {
                 // The bytes of the plain key come first.
                 set::public_key(PrivateKey::SET, self.0.front(SK_LEN))

@@ -1,6 +1,6 @@
 //! Generators of random bytes.
 
-use crate::proved::fips204_bytes::Fault;
+use crate::proved::fips204_shake::bytes::Fault;
 use crate::wiped::Wiped;
 use crate::{CryptoRng, RngCore, RngError};
 use core::num::NonZeroU32;

@@ -4,12 +4,12 @@
 use crate::Error;
 use crate::error::{WRONG_LENGTH, why};
 use crate::pieces::MessageHasher;
-use crate::proved::fips204_bytes::{Input, Refusal, SetName};
-use crate::proved::fips204_shake::MlDsa;
+use crate::proved::fips204_shake::AnySet;
+use crate::proved::fips204_shake::bytes::{Input, Refusal, SetName};
 use crate::traits::{SerDes, Signer, Verifier};
 use crate::wiped::{Held, Wiped, held, shows_nothing, wipe};
 #[cfg(feature = "rand_core")]
-use crate::{CryptoRng, RngCore, proved::fips204_bytes::Fault, rng::draw};
+use crate::{CryptoRng, RngCore, proved::fips204_shake::bytes::Fault, rng::draw};
 
 /// A parameter set, by the lengths of a public key, a private key and a signature.
 #[derive(Debug)]
@@ -47,7 +47,7 @@ where
     let mut public = PublicKey(Wiped::zeros());
     let mut private = PrivateKey(held());
     let set = Set::<PK, SK, SIG>::NAME;
-    let made = MlDsa::keygen(set, xi, public.0.array_mut(), private.0.array_mut());
+    let made = AnySet::keygen(set, xi, public.0.array_mut(), private.0.array_mut());
     made.map(|()| (public, private)).map_err(why)
 }
 
@@ -57,7 +57,7 @@ pub(crate) fn public_key<const PK: usize, const SK: usize, const SIG: usize>(
     private: &[u8],
 ) -> PublicKey<PK, SK, SIG> {
     let mut public = PublicKey(Wiped::zeros());
-    let made = MlDsa::public_key(set, private, public.0.array_mut());
+    let made = AnySet::public_key(set, private, public.0.array_mut());
     made.map_err(why).unwrap();
     public
 }
@@ -77,18 +77,18 @@ where
     pub(crate) const SET: SetName = Set::<PK, SK, SIG>::NAME;
 
     fn sign(&self, random: &[u8; 32], input: &Input<'_>) -> Result<[u8; SIG], &'static str> {
-        signed(|signature| MlDsa::sign(Self::SET, self.0.given(), random, input, signature))
+        signed(|signature| AnySet::sign(Self::SET, self.0.given(), random, input, signature))
     }
 
-    /// The key of these bytes, which are copied once, to where it keeps them.
+    /// The key of these bytes, which are copied once, to the place where it keeps them.
     fn checked(bytes: &[u8; SK]) -> Result<Self, &'static str> {
         let mut key = PrivateKey(held());
         key.0.array_mut().copy_from_slice(bytes);
-        let done = MlDsa::check_private_key(Self::SET, key.0.given());
+        let done = AnySet::check_private_key(Self::SET, key.0.given());
         done.map(|()| key).map_err(why)
     }
 
-    /// The bytes of the key, where it keeps them: of a key that was wiped zeros, which are not to be read as a key.
+    /// The bytes of the key, in the place where it keeps them. If the key was wiped they are zeros, which you must not read as a key.
     ///
     /// ```
     /// # #[cfg(feature = "ml-dsa-65")] {
@@ -127,7 +127,7 @@ where
     /// # Ok::<(), &'static str>(())
     /// ```
     pub fn is_whole(&self) -> Result<bool, Error> {
-        Ok(MlDsa::is_whole(Self::SET, self.0.given()).map_err(why)?)
+        Ok(AnySet::is_whole(Self::SET, self.0.given()).map_err(why)?)
     }
 
     /// Whether the key works: whether what it signs verifies under the public key that `get_public_key` returns,
@@ -150,7 +150,7 @@ where
     /// # Ok::<(), &'static str>(())
     /// ```
     pub fn is_pair(&self) -> Result<bool, Error> {
-        Ok(MlDsa::is_pair(Self::SET, self.0.given()).map_err(why)?)
+        Ok(AnySet::is_pair(Self::SET, self.0.given()).map_err(why)?)
     }
 
     /// Begins a message in pieces, which `try_sign_mu_with_rng` then signs. Takes [`STACK_MU`](crate::STACK_MU) bytes of stack.
@@ -293,7 +293,7 @@ where
 }
 
 impl<const PK: usize, const SK: usize, const SIG: usize> PublicKey<PK, SK, SIG> {
-    /// The bytes of the key, where it keeps them: of a key that was wiped zeros, which are not to be read as a key.
+    /// The bytes of the key, in the place where it keeps them. If the key was wiped they are zeros, which you must not read as a key.
     ///
     /// ```
     /// # #[cfg(feature = "ml-dsa-65")] {
@@ -335,7 +335,7 @@ where
     pub(crate) const SET: SetName = Set::<PK, SK, SIG>::NAME;
 
     fn accepts(&self, input: &Input<'_>, signature: &[u8; SIG]) -> bool {
-        MlDsa::verify(Self::SET, self.0.given(), input, signature) == Ok(true)
+        AnySet::verify(Self::SET, self.0.given(), input, signature) == Ok(true)
     }
 
     /// Begins a message in pieces, which `verify_mu` then verifies. Takes [`STACK_MU`](crate::STACK_MU) bytes of stack.
@@ -522,10 +522,10 @@ macro_rules! parameter_set {
         use crate::wiped::{Held, Wiped, held, shows_nothing};
         use crate::Error;
         use crate::error::why;
-        use crate::proved::fips204_bytes::{Input, SetName};
-        use crate::proved::fips204_shake::MlDsa;
+        use crate::proved::fips204_shake::bytes::{Input, SetName};
+        use crate::proved::fips204_shake::AnySet;
         #[cfg(feature = "rand_core")]
-        use crate::{CryptoRng, RngCore, rng::draw, proved::fips204_bytes::Fault};
+        use crate::{CryptoRng, RngCore, rng::draw, proved::fips204_shake::bytes::Fault};
 
         /// The number of bytes of a private key.
         pub const SK_LEN: usize = $sk_len;
@@ -609,7 +609,7 @@ macro_rules! parameter_set {
 #[cfg(any(feature = "ml-dsa-44", feature = "ml-dsa-65", feature = "ml-dsa-87"))]
 macro_rules! stack {
     ($($call:ident: $bytes:literal,)*) => {
-        /// How many bytes of stack the calls take at most, as `mldsa.h` says for C, where the crate is compiled with optimisation.
+        /// How many bytes of stack the calls take at most, as `mldsa.h` says for C, if the crate is compiled with optimisation.
         /// Give a thread this, 64 KiB more for the functions around them, and what your own take. Without optimisation, which is
         /// how cargo compiles for `dev`, no call takes more than 768 KiB.
         pub mod stack {

@@ -5,7 +5,7 @@ use crate::traits::{Signer, Verifier};
 use crate::{CryptoRng, RngCore};
 use signature::Error;
 
-/// A signature, of which `signature` asks that it is a type of its own.
+/// A signature. It is a type of its own, because the crate `signature` asks for that.
 ///
 /// ```
 /// # #[cfg(feature = "ml-dsa-65")] {

@@ -10,7 +10,7 @@ use crate::rng::system;
 use crate::{
     CryptoRng, RngCore,
     proved::fips204::ml_dsa::check_input,
-    proved::fips204_bytes::{Fault, Input},
+    proved::fips204_shake::bytes::{Fault, Input},
     rng::{draw, fixed},
     wiped::Wiped,
 };
@@ -216,10 +216,10 @@ pub trait Signer {
     /// use fips204::traits::{Signer, Verifier};
     /// use fips204::{ml_dsa_65, pre_hash};
     ///
-    /// let digest = [5; 32]; // stands for the SHA-256 of a message
+    /// let digest = [5; 64]; // stands for the SHA-512 of a message
     /// let (public, private) = ml_dsa_65::try_keygen()?;
-    /// let signature = private.try_hash_sign(&digest, b"a context", &pre_hash::SHA2_256)?;
-    /// assert!(public.hash_verify(&digest, &signature, b"a context", &pre_hash::SHA2_256));
+    /// let signature = private.try_hash_sign(&digest, b"a context", &pre_hash::SHA2_512)?;
+    /// assert!(public.hash_verify(&digest, &signature, b"a context", &pre_hash::SHA2_512));
     /// # }
     /// # Ok::<(), &'static str>(())
     /// ```
@@ -248,8 +248,8 @@ pub trait Signer {
     /// use fips204::{ml_dsa_65, pre_hash, traits::Signer};
     ///
     /// # fn example(private: &ml_dsa_65::PrivateKey, your_generator: &mut (impl RngCore + CryptoRng)) -> Result<(), &'static str> {
-    /// let digest = [5; 32]; // stands for the SHA-256 of a message
-    /// let signature = private.try_hash_sign_with_rng(your_generator, &digest, b"", &pre_hash::SHA2_256)?;
+    /// let digest = [5; 64]; // stands for the SHA-512 of a message
+    /// let signature = private.try_hash_sign_with_rng(your_generator, &digest, b"", &pre_hash::SHA2_512)?;
     /// # let _ = signature;
     /// # Ok(())
     /// # }
@@ -281,11 +281,11 @@ pub trait Signer {
         /// use fips204::traits::{KeyGen, Signer};
         /// use fips204::{ml_dsa_65::KG, pre_hash};
         ///
-        /// let digest = [5; 32]; // stands for the SHA-256 of a message
+        /// let digest = [5; 64]; // stands for the SHA-512 of a message
         /// let (public, private) = KG::keygen_from_seed(&[7; 32]); // a seed is secret, and random
-        /// let signature = private.try_hash_sign_with_seed(&[0; 32], &digest, b"", &pre_hash::SHA2_256)?;
+        /// let signature = private.try_hash_sign_with_seed(&[0; 32], &digest, b"", &pre_hash::SHA2_512)?;
         ///
-        /// let refused = private.try_hash_sign_with_seed(&[0; 32], b"a message", b"", &pre_hash::SHA2_256);
+        /// let refused = private.try_hash_sign_with_seed(&[0; 32], b"a message", b"", &pre_hash::SHA2_512);
         /// assert_eq!(refused, Err("HashML-DSA.Sign: digest length does not match the OID"));
         /// # let _ = (public, signature);
         /// # }
@@ -344,7 +344,7 @@ pub trait Verifier {
     #[must_use]
     fn verify(&self, message: &[u8], signature: &Self::Signature, ctx: &[u8]) -> bool;
 
-    /// Whether the key accepts the signature of a digest under a context. False where signing would reject context, identifier
+    /// Whether the key accepts the signature of a digest under a context. False if signing would reject context, identifier
     /// or digest. Takes `stack::VERIFY` bytes of stack.
     ///
     /// ```
@@ -352,11 +352,11 @@ pub trait Verifier {
     /// use fips204::traits::{KeyGen, Signer, Verifier};
     /// use fips204::{ml_dsa_65::KG, pre_hash};
     ///
-    /// let digest = [5; 32]; // stands for the SHA-256 of a message
+    /// let digest = [5; 64]; // stands for the SHA-512 of a message
     /// let (public, private) = KG::keygen_from_seed(&[7; 32]); // a seed is secret, and random
-    /// let signature = private.try_hash_sign_with_seed(&[0; 32], &digest, b"", &pre_hash::SHA2_256)?;
-    /// assert!(public.hash_verify(&digest, &signature, b"", &pre_hash::SHA2_256));
-    /// assert!(!public.hash_verify(&digest, &signature, b"", &pre_hash::SHA3_256));
+    /// let signature = private.try_hash_sign_with_seed(&[0; 32], &digest, b"", &pre_hash::SHA2_512)?;
+    /// assert!(public.hash_verify(&digest, &signature, b"", &pre_hash::SHA2_512));
+    /// assert!(!public.hash_verify(&digest, &signature, b"", &pre_hash::SHA3_512));
     /// # }
     /// # Ok::<(), &'static str>(())
     /// ```

@@ -1,11 +1,11 @@
-//! ML-DSA over any two XOFs of yours: `H` in the place of SHAKE256, `G` in that of SHAKE128.
+//! ML-DSA over any two XOFs of yours: `H` takes the place of SHAKE256, and `G` that of SHAKE128.
 //!
 //! These are the types and calls of the proved source, under their own names; they are not those of the rest of this crate, which are
 //! over SHAKE, return texts as errors, and wipe keys. Here a call returns a [`Fault`] or a [`Refusal`], and wipes nothing.
 //!
 //! - `ml_dsa_44`, `ml_dsa_65` and `ml_dsa_87` have the keys of each set, whose calls are those of the traits [`KeyGen`], [`Signer`],
 //!   [`Verifier`] and [`SerDes`]. A private or public key is decoded when it is made; `prepare` also samples its matrix.
-//! - [`MlDsa44`], [`MlDsa65`] and [`MlDsa87`] are the calls with keys and signatures as slices, and [`ByName`] those of a set whose
+//! - [`MlDsa44`], [`MlDsa65`] and [`MlDsa87`] are the calls with keys and signatures as slices, and [`AnySet`] those of a set whose
 //!   [name](SetName) is known when the program runs.
 //!
 //! What is signed is an [`Input`]. No call requires anything of its arguments that their types do not say.
@@ -51,8 +51,8 @@ pub use crate::proved::fips204::{MAX_PREHASH_LEN, MAX_SIGN_ATTEMPTS, check_pre_h
 pub use crate::proved::fips204_base::xof::{Fill, FillReader, FrontReader};
 #[cfg(feature = "sha2")]
 pub use crate::proved::fips204_base::xof::{Sha256Ctr, Sha256CtrLong, Sha512Ctr, Sha512CtrLong};
-pub use crate::proved::fips204_bytes::{
-    Array, ByName, Calls, Fault, Input, MlDsa44, MlDsa65, MlDsa87, Refusal, SetName,
+pub use crate::proved::fips204_shake::bytes::{
+    AnySet, Buffer, Fault, Input, MlDsa, MlDsa44, MlDsa65, MlDsa87, Refusal, SetName,
 };
 pub use crate::proved::fips204_shake::streams::{Shake128Stream, Shake256Stream};
 
@@ -79,7 +79,7 @@ pub use crate::proved::fips204_base::xof::Xof;
 /// - `read` fills its slice with the next bytes of the output, in their order, and has then read these. How the output is cut into
 ///   calls makes no difference.
 /// - `left` is how many bytes of the output are not read yet.
-/// - `read_four`, where an implementation has it, does what four calls of `read` do.
+/// - `read_four`, if an implementation has it, does what four calls of `read` do.
 ///
 /// `read` may count on a slice that is no longer than what is `left`, and `read_four` on slices of one length, of which the fourth
 /// may also be empty: so the library calls them, and so do you.

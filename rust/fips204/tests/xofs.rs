@@ -1,7 +1,7 @@
 //! The keys and calls over XOFs of the caller's: over SHAKE they are those of the rest of the crate, and over others they work too.
 
 use fips204::xofs::{
-    Array, ByName, Fault, Fill, FrontReader, Input, KeyGen, MlDsa44, MlDsa65, MlDsa87, Refusal,
+    AnySet, Buffer, Fault, Fill, FrontReader, Input, KeyGen, MlDsa44, MlDsa65, MlDsa87, Refusal,
     SerDes, SetName, Shake128Stream, Shake256Stream, Signer, Verifier, Xof, XofReader,
 };
 
@@ -32,8 +32,8 @@ fn made<H: Xof, G: Xof>(set: SetName) -> [Vec<u8>; 3] {
         vec![0; set.private_key_len()],
     );
     let mut signature = vec![0; set.signature_len()];
-    ByName::<H, G>::keygen(set, &[7; 32], &mut public, &mut private).unwrap();
-    ByName::<H, G>::sign(set, &private, &[9; 32], &INPUT, &mut signature).unwrap();
+    AnySet::<H, G>::keygen(set, &[7; 32], &mut public, &mut private).unwrap();
+    AnySet::<H, G>::sign(set, &private, &[9; 32], &INPUT, &mut signature).unwrap();
     [public, private, signature]
 }
 
@@ -107,16 +107,16 @@ fn prepared() {
         let mut checks = vec![0; set.prepared_public_key_len()];
         let mut signs = vec![0; set.prepared_private_key_len()];
         let mut again = vec![0; signature.len()];
-        ByName::<Sum, Sum>::prepare_public_key(set, &public, &mut checks).unwrap();
-        ByName::<Sum, Sum>::prepare_private_key(set, &private, &mut signs).unwrap();
-        let accepted = ByName::<Sum, Sum>::verify_prepared(set, &checks, &INPUT, &signature);
+        AnySet::<Sum, Sum>::prepare_public_key(set, &public, &mut checks).unwrap();
+        AnySet::<Sum, Sum>::prepare_private_key(set, &private, &mut signs).unwrap();
+        let accepted = AnySet::<Sum, Sum>::verify_prepared(set, &checks, &INPUT, &signature);
         assert_eq!(accepted, Ok(true));
-        ByName::<Sum, Sum>::sign_prepared(set, &signs, &[9; 32], &INPUT, &mut again).unwrap();
+        AnySet::<Sum, Sum>::sign_prepared(set, &signs, &[9; 32], &INPUT, &mut again).unwrap();
         assert_eq!(again, signature);
 
         let end = signs.len() - 1;
         signs[end] = 0xFF;
-        let refused = ByName::<Sum, Sum>::sign_prepared(set, &signs, &[9; 32], &INPUT, &mut again);
+        let refused = AnySet::<Sum, Sum>::sign_prepared(set, &signs, &[9; 32], &INPUT, &mut again);
         assert_eq!(refused, Err(Refusal::NotPrepared));
     }
 }
@@ -138,7 +138,7 @@ fn refusals() {
     private[128] = 0xFF;
     assert_eq!(text(&private, INPUT), "Alg 25: s1 or s2 out of range");
     let short = MlDsa44::<Sum, Sum>::verify(&public, &INPUT, &signature[1..]);
-    assert_eq!(short, Err(Refusal::Length(Array::Signature)));
+    assert_eq!(short, Err(Refusal::Length(Buffer::Signature)));
     assert_eq!(
         Refusal::NotPrepared.to_string(),
         "no call has written this prepared key"
@@ -162,7 +162,7 @@ fn constant_outputs() {
             vec![0; set.private_key_len()],
         );
         let refused =
-            ByName::<Fill<0xFF>, Fill<0xFF>>::keygen(set, &[7; 32], &mut public, &mut private);
+            AnySet::<Fill<0xFF>, Fill<0xFF>>::keygen(set, &[7; 32], &mut public, &mut private);
         assert_eq!(refused, Err(Refusal::Library(Fault::SamplingLimit)));
     }
 }

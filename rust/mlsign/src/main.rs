@@ -10,8 +10,8 @@ mod proved;
 /// What each file of `proved` sees, in the place of Rattle's std and of the crates that it names.
 mod standing {
     pub(crate) use crate::clap;
-    pub use crate::proved::{mlsign_engine, mlsign_files};
-    pub use corkaife::proved::{fips204, fips204_bytes, fips204_der, fips204_shake};
+    pub use crate::proved::mlsign_engine;
+    pub use corkaife::proved::{fips204, fips204_shake};
     pub use corkaife::{proved_for_tests::*, sha2_arrays as sha2};
     pub use rattle_std::prelude::*;
 }

@@ -1,30 +1,120 @@
-//! The calls of the prepared keys of every parameter set: those of the plain keys, which are the bodies of `Signer` and
-//! `Verifier`, and many messages in one call. Each returns what the plain key's call of the same name returns, in fewer steps: the matrix is sampled once,
-//! by `prepare`.
+//! Keys that are prepared once for many calls: a key with the matrix of its seed and the transforms of its vectors. Their calls
+//! are those of the plain keys, and many messages in one call; each returns what the plain key's call of the same name
+//! returns, in fewer steps.
 #![tactic(auto)]
 
 ghost use Rattle.std.specs.Prelude.{◌≡◌, ◌↔◌, length, map, Ok, IfOk, IsTrue};
 ghost use Rattle.std.proofs.Common.{ap};
-ghost use Rattle.fips204_base.specs.Encodings.{ArePrivateParts};
+ghost use Rattle.fips204_base.specs.Encodings.{ArePrivateParts, ArePublicParts};
 ghost use Rattle.fips204_base.specs.Vectors.{MatrixWithin};
 ghost use Rattle.fips204.specs.Framing.{plain, hashed, framed, represented, representative};
 ghost use Rattle.fips204.specs.Inputs.{input_of};
-ghost use Rattle.fips204.specs.Prepared.{sign_prepared, public_of_prepared, IsWholePrepared, IsEachSigned};
+ghost use Rattle.fips204.specs.Prepared.{sign_prepared, public_of_prepared, IsEachSigned};
 ghost use Rattle.fips204.specs.Prepared.{AcceptedIfWholePrepared, IsEachJudged, VerifiesPrepared};
 ghost use Rattle.fips204.specs.Refusals.{DrawsIf, DrawsUnless, Writes, input_fault, refused_or};
 ghost use Rattle.fips204.specs.Signing.{sign_with};
 
+mod by_bytes;
+mod bytes;
+
+use super::random::{SignsInput, sign_drawn, sign_hedged, sign_seeded};
 use crate::input::Input;
 use crate::ml_dsa;
 use crate::sets::{HasSet, Matrix, Set, SignatureSizes};
-use crate::traits::{CryptoRngCore, Signer, Verifier};
-use crate::types::{PreparedPrivateKey, PreparedPublicKey, R0};
+use crate::traits::CryptoRngCore;
+use crate::types::{PrivateKey, R, R0, T};
 use fips204_base::Fault;
 use fips204_base::product::Transforms;
 use fips204_base::xof::Xof;
-use std::marker::PhantomData;
+use std::marker::{Model, PhantomData};
 
-impl<S, const K: usize, const L: usize, const SIG_LEN: usize, H> Signer
+/// The transforms of a private key's vectors (FIPS 204, Algorithm 7, lines 2 to 4).
+#[derive(Drop)]
+pub struct KeyTransforms {
+    pub(crate) s1_hat: Transforms,
+    pub(crate) s2_hat: Transforms,
+    pub(crate) t0_hat: Transforms,
+}
+
+impl KeyTransforms {
+    /// The transforms of vectors of zeros.
+    pub(crate) fn zeros() -> KeyTransforms {
+        KeyTransforms {
+            s1_hat: Transforms::zeros(),
+            s2_hat: Transforms::zeros(),
+            t0_hat: Transforms::zeros(),
+        }
+    }
+}
+
+/// A private key of a parameter set with a matrix of `K` rows and `L` columns, over the XOF `H`, with its matrix and
+/// the transforms of its vectors.
+///
+/// Contracts see it as the private key's parts and the matrix, whose entries are the transforms of the plain matrix.
+#[derive(Drop)]
+pub struct PreparedPrivateKey<const K: usize, const L: usize, H> {
+    pub(crate) key: PrivateKey<K, L, H, ()>,
+    pub(crate) a_hat: [[T; L]; K],
+    pub(crate) transforms: KeyTransforms,
+}
+
+impl<const K: usize, const L: usize, H> Model for PreparedPrivateKey<K, L, H> {
+    ghost use Rattle.fips204_base.specs.Vectors.{MatrixWithin};
+    ghost use Rattle.fips204.specs.SigningInputs.{AreKeyTransforms};
+    ghost use Rattle.std.specs.Prelude.{nat_eq, if◌then◌else◌};
+    ghost use Rattle.fips204_base.specs.Encodings.{ArePrivateParts};
+    ghost use Rattle.fips204.specs.Prepared.{PreparedPrivate};
+
+    ghost Value = { PreparedPrivate };
+
+    ghost view = { λ sk. record { parts = sk.key; matrix = sk.a_hat } };
+
+    // The key is in the ranges of `PrivateKey`.
+    ghost invariant = { λ sk. MatrixWithin 8380416 sk.a_hat × ArePrivateParts (if nat_eq K 6 then 4 else 2) K L sk.key
+        × AreKeyTransforms K L sk.key sk.transforms };
+}
+
+/// A public key of a parameter set with a matrix of `K` rows and `L` columns, over the XOF `H`, with its matrix and the
+/// transforms of `t1 2^d`.
+///
+/// Contracts see it as the public key's parts and the matrix, whose entries are the transforms of the plain matrix.
+#[derive(Drop)]
+pub struct PreparedPublicKey<const K: usize, const L: usize, H> {
+    // The plain key's parts, one by one: an entire key would first be put together in the stack beside this one.
+    pub(crate) rho: [u8; 32],
+    pub(crate) tr: [u8; 64],
+    pub(crate) t1: [R; K],
+    pub(crate) a_hat: [[T; L]; K],
+    pub(crate) t1_hat: Transforms,
+    pub(crate) stream: PhantomData<H>,
+}
+
+impl<const K: usize, const L: usize, H> Model for PreparedPublicKey<K, L, H> {
+    ghost use Rattle.fips204_base.specs.Vectors.{MatrixWithin};
+    ghost use Rattle.fips204.specs.SigningInputs.{AreShifted};
+    ghost use Rattle.fips204_base.specs.Encodings.{ArePublicParts};
+    ghost use Rattle.fips204.specs.Prepared.{PreparedPublic};
+
+    ghost Value = { PreparedPublic };
+
+    ghost view = { λ pk. record { parts = record { rho = pk.rho; tr = pk.tr; t1 = pk.t1 }; matrix = pk.a_hat } };
+
+    ghost invariant = { λ pk. ArePublicParts K record { rho = pk.rho; tr = pk.tr; t1 = pk.t1 }
+        × MatrixWithin 8380416 pk.a_hat × AreShifted K pk.t1 pk.t1_hat };
+}
+
+impl<const K: usize, const L: usize, H> PreparedPublicKey<K, L, H> {
+    /// The hash of the key's bytes, as `PublicKey::tr`. The key's parts and its matrix are in range.
+    pub fn tr(&self) -> &[u8; 64]
+        ensures hash { result.now ≡ self.now.parts.tr }
+        ensures matrix { MatrixWithin 8380416 self.now.matrix }
+        ensures parts { ArePublicParts K self.now.parts }
+    {
+        &self.tr
+    }
+}
+
+impl<S, const K: usize, const L: usize, const SIG_LEN: usize, H> SignsInput
     for PreparedPrivateKey<K, L, H>
 where
     H: Xof,
@@ -33,58 +123,17 @@ where
 {
     type Signature = [u8; SIG_LEN];
 
-    type PublicKey = PreparedPublicKey<K, L, H>;
-
     ghost signs = { sign_prepared S.set H.front };
 
-    ghost derives = { λ key. Ok (public_of_prepared S.set key) };
+    ghost accepted = { AcceptedIfWholePrepared S.set H.front };
 
-    ghost whole = { IsWholePrepared S.set };
+    ghost refused = { λ key random input fault broken.
+        ap (λ first. refused_or first (sign_with S.set H.front key.matrix key.parts (representative H.front key.parts.tr input) random)) broken };
 
-    ghost refused = { λ key rnd input fault broken.
-        ap (λ first. refused_or first (sign_with S.set H.front key.matrix key.parts (representative H.front key.parts.tr input) rnd)) broken };
+    ghost unsigned = { λ key input fault pk signature whole derives made. absurd cc };
 
-    fn sign_input(&self, seed: &[u8; 32], input: &Input<'_>) -> Result<[u8; SIG_LEN], Fault> {
-        let mut signature = [0u8; SIG_LEN];
-        self.write_signature(seed, input, &mut signature)?;
-        Ok(signature)
-    }
-
-    /// The public key that belongs to the key, prepared too. Never returns an error.
-    fn get_public_key(&self) -> Result<PreparedPublicKey<K, L, H>, Fault> {
-        let plain = &self.key;
-        let mut pk = PreparedPublicKey {
-            rho: plain.rho,
-            tr: plain.tr,
-            t1: [R0; K],
-            a_hat: self.a_hat,
-            t1_hat: Transforms::zeros(),
-            stream: PhantomData,
-        };
-        ml_dsa::write_high_part(&S::params(), &self.a_hat, &plain.s1, &plain.s2, &mut pk.t1);
-        ml_dsa::write_shifted_transforms(&pk.t1, &mut pk.t1_hat);
-        Ok(pk)
-    }
-}
-
-impl<S, const K: usize, const L: usize, const SIG_LEN: usize, H> Verifier
-    for PreparedPublicKey<K, L, H>
-where
-    H: Xof,
-    Matrix<K, L>: HasSet<Set = S>,
-    S: Set<Signature = [u8; SIG_LEN]> + SignatureSizes<K, L, SIG_LEN>,
-{
-    type Signature = [u8; SIG_LEN];
-
-    ghost accepts = { VerifiesPrepared S.set H.front };
-
-    ghost unbroken = { λ key signature input accepted. accepted.0 };
-
-    fn accepts_input(&self, input: &Input<'_>, signature: &[u8; SIG_LEN]) -> bool {
-        match ml_dsa::mu_of::<H>(&self.tr, input) {
-            Ok(mu) => ml_dsa::verify_prepared::<K, L, H>(&S::params(), self, &mu, signature),
-            Err(_) => false,
-        }
+    fn sign_with(&self, random: &[u8; 32], input: &Input<'_>) -> Result<[u8; SIG_LEN], Fault> {
+        self.sign_input(random, input)
     }
 }
 
@@ -104,7 +153,37 @@ where
         &self.key.tr
     }
 
-    /// Writes what `sign_input` returns: `key.write_signature(&random, &input, &mut signature)?`.
+    /// The public key that belongs to the key, prepared too. Never returns an error.
+    pub fn get_public_key(&self) -> Result<PreparedPublicKey<K, L, H>, Fault>
+        ensures { result ≡ Ok (public_of_prepared S.set self.now) }
+    {
+        let plain = &self.key;
+        let mut pk = PreparedPublicKey {
+            rho: plain.rho,
+            tr: plain.tr,
+            t1: [R0; K],
+            a_hat: self.a_hat,
+            t1_hat: Transforms::zeros(),
+            stream: PhantomData,
+        };
+        ml_dsa::write_high_part(&S::params(), &self.a_hat, &plain.s1, &plain.s2, &mut pk.t1);
+        ml_dsa::write_shifted_transforms(&pk.t1, &mut pk.t1_hat);
+        Ok(pk)
+    }
+
+    /// Signs an input with the random bytes `seed`: `key.sign_input(&random, &Input::Message(b"message", b""))?`.
+    ///
+    /// Errors: those of `PrivateKey::sign_input`.
+    pub fn sign_input(&self, seed: &[u8; 32], input: &Input<'_>) -> Result<[u8; SIG_LEN], Fault>
+        ensures answer { result ≡ sign_prepared S.set H.front self.now seed.now (input_of input.now) }
+        ensures accepted { AcceptedIfWholePrepared S.set H.front self.now (input_of input.now) result }
+    {
+        let mut signature = [0u8; SIG_LEN];
+        self.write_signature(seed, input, &mut signature)?;
+        Ok(signature)
+    }
+
+    /// Like `sign_input`, but signs into the caller's array: `key.write_signature(&random, &input, &mut signature)?`.
     ///
     /// Errors: those of `sign_input`; `signature` is then as it was.
     pub fn write_signature(
@@ -141,7 +220,7 @@ where
             Fault.SignRng (λ rnd. sign_prepared S.set H.front self.now rnd (plain message.now ctx.now)) result }
         ensures accepted { AcceptedIfWholePrepared S.set H.front self.now (plain message.now ctx.now) result }
     {
-        Signer::try_sign_with_rng(self, rng, message, ctx)
+        sign_drawn(self, rng, &Input::Message(message, ctx), Fault::SignRng)
     }
 
     /// Signs a message (Algorithm 2) with the random bytes `seed`:
@@ -157,7 +236,7 @@ where
         ensures answer { result ≡ sign_prepared S.set H.front self.now seed.now (plain message.now ctx.now) }
         ensures accepted { AcceptedIfWholePrepared S.set H.front self.now (plain message.now ctx.now) result }
     {
-        Signer::try_sign_with_seed(self, seed, message, ctx)
+        sign_seeded(self, seed, &Input::Message(message, ctx))
     }
 
     /// Signs a digest (Algorithm 4) with 32 random bytes of the generator, which is asked once. `hash_oid` is the DER
@@ -177,7 +256,12 @@ where
             R.refuses rng.old rng.new Fault.HashRng (λ rnd. sign_prepared S.set H.front self.now rnd input) result }
         ensures accepted { AcceptedIfWholePrepared S.set H.front self.now (hashed hash.now ctx.now hash_oid.now) result }
     {
-        Signer::try_hash_sign_with_rng(self, rng, hash, ctx, hash_oid)
+        sign_drawn(
+            self,
+            rng,
+            &Input::Digest(hash, ctx, hash_oid),
+            Fault::HashRng,
+        )
     }
 
     /// Signs a digest (Algorithm 4) with the random bytes `seed`:
@@ -195,7 +279,7 @@ where
         ensures answer { result ≡ sign_prepared S.set H.front self.now seed.now (hashed hash.now ctx.now hash_oid.now) }
         ensures accepted { AcceptedIfWholePrepared S.set H.front self.now (hashed hash.now ctx.now hash_oid.now) result }
     {
-        Signer::try_hash_sign_with_seed(self, seed, hash, ctx, hash_oid)
+        sign_seeded(self, seed, &Input::Digest(hash, ctx, hash_oid))
     }
 
     /// Signs a framed message `m` (Algorithm 7). The 32 random bytes are zeros without `hedged`; with it they are
@@ -212,7 +296,7 @@ where
             (λ rnd. sign_prepared S.set H.front self.now rnd (framed m.now)) result }
         ensures accepted { AcceptedIfWholePrepared S.set H.front self.now (framed m.now) result }
     {
-        self.sign_input_with_rng(rng, &Input::Framed(m), hedged)
+        sign_hedged(self, rng, &Input::Framed(m), hedged)
     }
 
     /// Signs the hash `mu` of a framed message (Algorithm 7 from line 7 on): `key.sign_mu(&mut rng, &mu, true)?`.
@@ -227,7 +311,7 @@ where
             (λ rnd. sign_prepared S.set H.front self.now rnd (represented mu.now)) result }
         ensures accepted { AcceptedIfWholePrepared S.set H.front self.now (represented mu.now) result }
     {
-        self.sign_input_with_rng(rng, &Input::Mu(mu), hedged)
+        sign_hedged(self, rng, &Input::Mu(mu), hedged)
     }
 
     /// Signs each message with its own 32 random bytes, under one context: `out[i]` becomes the result of
@@ -257,12 +341,23 @@ where
     Matrix<K, L>: HasSet<Set = S>,
     S: Set<Signature = [u8; SIG_LEN]> + SignatureSizes<K, L, SIG_LEN>,
 {
+    /// Verifies the signature of an input: `key.accepts_input(&Input::Message(b"message", b""), &signature)`. Returns
+    /// false if the input is rejected.
+    pub fn accepts_input(&self, input: &Input<'_>, signature: &[u8; SIG_LEN]) -> bool
+        ensures { IsTrue result ↔ VerifiesPrepared S.set H.front self.now signature.now (input_of input.now) }
+    {
+        match ml_dsa::mu_of::<H>(&self.tr, input) {
+            Ok(mu) => ml_dsa::verify_prepared::<K, L, H>(&S::params(), self, &mu, signature),
+            Err(_) => false,
+        }
+    }
+
     /// Verifies the signature of a message (Algorithm 3): `public.prepare()?.verify(b"message", &signature, b"context")`.
     /// Returns false if `ctx` has more than 255 bytes.
     pub fn verify(&self, message: &[u8], signature: &[u8; SIG_LEN], ctx: &[u8]) -> bool
         ensures { IsTrue result ↔ VerifiesPrepared S.set H.front self.now signature.now (plain message.now ctx.now) }
     {
-        Verifier::verify(self, message, signature, ctx)
+        self.accepts_input(&Input::Message(message, ctx), signature)
     }
 
     /// Verifies the signature of a digest (Algorithm 5): `key.hash_verify(&digest, &signature, b"context", &SHA2_256)`.
@@ -277,7 +372,7 @@ where
         ensures { IsTrue result
             ↔ VerifiesPrepared S.set H.front self.now signature.now (hashed hash.now ctx.now hash_oid.now) }
     {
-        Verifier::hash_verify(self, hash, signature, ctx, hash_oid)
+        self.accepts_input(&Input::Digest(hash, ctx, hash_oid), signature)
     }
 
     /// Verifies the signature of a framed message `m` (Algorithm 8): `key.verify_internal(&framed, &signature)`.

@@ -230,10 +230,9 @@ fn write_key_vector<const K: usize, const L: usize, G: Xof>(
         t.new ≡ vector_of K (λ r n. pos (key_vector L a s1.now s2.now r n))) }
     ensures range { IfOk result (λ _. IsResidueVector K t.new) }
 {
-    let mut s1_hat = Transforms::zeros();
-    s1_hat.write_transforms(s1);
     let mut product = Transforms::zeros();
-    write_sampled_product::<K, L, G>(rho, &s1_hat, &mut product)?;
+    product.write_transforms(s1);
+    write_sampled_product::<K, L, G>(rho, &mut product)?;
     product.write_plain(t);
     write_sum(t, s2);
     Ok(())

@@ -9,7 +9,7 @@ ghost use Rattle.fips204.specs.PreparedBytes.{entry_bytes, row_bytes, matrix_byt
 
 use crate::types::{T, T0};
 use fips204_base::Q;
-use fips204_base::product::Transforms;
+use fips204_base::product::{Transforms, Values};
 
 /// Writes a matrix, 1024 bytes for each entry.
 pub(crate) fn write_matrix<const K: usize, const L: usize>(a: &[[T; L]; K], out: &mut [u8])
@@ -65,25 +65,29 @@ pub(crate) fn read_matrix<const K: usize, const L: usize>(
     Some(())
 }
 
-/// Writes `A v` for the matrix that has these bytes, with one row of it at a time, or returns `None` where a value is
-/// `q` or more; `out` may then have been written in part.
+/// Writes `A v` over `v`, for the matrix that has these bytes, with one row of it at a time, or returns `None` where a value
+/// is `q` or more; `v` may then have been written in part.
+///
+/// Not inlined, so that the rows leave the stack before the product is used.
+#[inline(never)]
 pub(crate) fn write_read_product<const K: usize, const L: usize>(
     bytes: &[u8],
-    v: &Transforms,
-    out: &mut Transforms,
+    v: &mut Transforms,
 ) -> Option<()>
     requires few { (K ≤ 8) × (L ≤ 7) }
     requires size { length bytes.now ≡ 1024 * L * K }
     ensures { MatchOption result ((b : List (List T)) → IsMatrix K L b → matrix_bytes b ≡ bytes.now → ⊥)
         (λ _. (a : List (List T)) × IsMatrix K L a × (matrix_bytes a ≡ bytes.now) × ((r n : ℕ) → r < K → n < 256
-        → vector_coefficients out.new r n ≡ matrix_product L a (vector_coefficients v.now) r n)) }
+        → vector_coefficients v.new r n ≡ matrix_product L a (vector_coefficients v.old) r n)) }
 {
     let mut row = [T0; L];
+    let mut values = Values::zeros();
+    v.write_values(&mut values);
     let size = 1024 * L;
     for r in 0..K {
         let at = size * r;
         read_row(&bytes[at..at + size], &mut row)?;
-        out.write_row_product(r, &row, v);
+        v.write_row_product(r, &row, &values);
     }
     Some(())
 }

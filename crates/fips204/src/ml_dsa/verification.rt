@@ -20,7 +20,7 @@ ghost use Rattle.fips204.specs.Sets.{HasSizes, set_of};
 
 use super::commitment_hash::write_commitment_hash;
 use super::matrix_bytes::{check_matrix, write_read_product};
-use super::rejection::has_norm_below;
+use super::signing::has_norm_below;
 use crate::types::{Params, PreparedPublicKey, PublicKey, R, R0};
 use fips204_base::D;
 use fips204_base::encodings::write_signature_parts;
@@ -49,18 +49,12 @@ pub fn verify_internal<const K: usize, const L: usize, const SIG_LEN: usize, H: 
     };
     let (c_tilde, c) = parts;
     // NTT(c), NTT(z)
-    let mut z_hat = Transforms::zeros();
-    let c_hat = z_hat.write_transforms_and_factor(&z, &c);
-    // A = ExpandA(rho), A z
     let mut az = Transforms::zeros();
-    match write_sampled_product::<K, L, G>(&pk.rho, &z_hat, &mut az) {
+    let c_hat = az.write_transforms_and_factor(&z, &c);
+    // A = ExpandA(rho), A z
+    match write_sampled_product::<K, L, G>(&pk.rho, &mut az) {
         Err(_) => false,
-        Ok(()) => {
-            // NTT(t1 2^d), in the place of NTT(z)
-            let t1_hat = &mut z_hat;
-            write_shifted_transforms(&pk.t1, t1_hat);
-            is_committed::<K, H>(p, mu, c_tilde, &h, &c_hat, &mut az, t1_hat)
-        }
+        Ok(()) => is_committed_by::<K, H>(p, mu, c_tilde, &h, &c_hat, &mut az, &pk.t1),
     }
 }
 
@@ -110,22 +104,45 @@ pub(crate) fn verify_by_bytes<const K: usize, const L: usize, H: Xof>(
         return Some(false);
     };
     let (c_tilde, c) = parts;
-    // NTT(c), NTT(z)
-    let mut z_hat = Transforms::zeros();
-    let c_hat = z_hat.write_transforms_and_factor(&z, &c);
-    // A z
+    // NTT(c), A z
     let mut az = Transforms::zeros();
-    write_read_product::<K, L>(matrix, &z_hat, &mut az)?;
-    // NTT(t1 2^d), in the place of NTT(z)
-    let t1_hat = &mut z_hat;
-    write_shifted_transforms(t1, t1_hat);
-    Some(is_committed::<K, H>(p, mu, c_tilde, &h, &c_hat, &mut az, t1_hat))
+    let c_hat = az.write_transforms_and_factor(&z, &c);
+    write_read_product::<K, L>(matrix, &mut az)?;
+    Some(is_committed_by::<K, H>(p, mu, c_tilde, &h, &c_hat, &mut az, t1))
+}
+
+/// `is_committed` with `t1` itself, whose transforms are in the stack only here.
+#[inline(never)]
+fn is_committed_by<const K: usize, H: Xof>(
+    p: &Params,
+    mu: &[u8; 64],
+    c_tilde: &[u8],
+    h: &[R; K],
+    c_hat: &Factor,
+    az: &mut Transforms,
+    t1: &[R; K],
+) -> bool
+    requires rows { K ≡ p.now.k }
+    requires hint { IsVector K 0 1 h.now }
+    requires part { IsHighPart K t1.now }
+    ensures { (shifted : List R) × AreShifted K t1.now shifted × ((c : R) → IsFactorOf c_hat.now c → (IsTrue result
+        ↔ (c_tilde.now ≡ commitment_hash (set_of p.now) H.front mu.now
+        (hinted (set_of p.now) h.now (λ r. minus (vector_coefficients az.old r)
+        (product (coefficients c.0) (vector_coefficients shifted r))))))) }
+{
+    // NTT(t1 2^d)
+    let mut t1_hat = Transforms::zeros();
+    write_shifted_transforms(t1, &mut t1_hat);
+    is_committed::<K, H>(p, mu, c_tilde, h, c_hat, az, &t1_hat)
 }
 
 /// Whether `c_tilde` commits to `mu` and `w1' = UseHint(h, A z - c t1 2^d)` (lines 9 to 13). Uses `A z` up.
 ///
 /// `c_hat` and `t1_hat` are what `c` and `t1 2^d` are multiplied as. Coefficients of `h` are 0 or 1, and `K` is that of
 /// the parameter set.
+///
+/// Not inlined, so that its rows are not in the stack while `t1 2^d` is transformed.
+#[inline(never)]
 fn is_committed<const K: usize, H: Xof>(
     p: &Params,
     mu: &[u8; 64],

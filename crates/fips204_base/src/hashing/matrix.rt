@@ -70,8 +70,8 @@ fn are_below_q(values: &[i32; 256]) -> bool
     most < Q
 }
 
-/// Puts the coefficients that 256 triples give into `values`, and returns how many there are. Mostly each triple gives one: so
-/// their numbers are written side by side first, and only where one is too large are the others moved to the start.
+/// Puts the coefficients that 256 triples give into `values`, and returns how many there are. Nearly all triples are
+/// accepted, so it decodes 256 at once, and compacts only if one is too large.
 fn write_first_triples(triples: &[u8], values: &mut [i32; 256]) -> usize
     requires { length triples.now ≡ 768 }
     ensures count { result ≤ 256 }

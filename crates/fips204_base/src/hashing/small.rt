@@ -11,7 +11,7 @@ ghost use Rattle.fips204_base.specs.Bounds.{IsEta};
 use crate::conversion::coeff_from_half_byte;
 use crate::fault::Fault;
 use crate::hashing::sampler::{Draws, Sampler};
-use crate::hashing::{open_numbered, write_kept_without_branch};
+use crate::hashing::{open_numbered, push_branchless};
 use crate::types::{R, R0};
 use crate::xof::{Xof, XofReader};
 
@@ -46,8 +46,8 @@ fn write_half_bytes_at(eta: i32, piece: &[u8], values: &mut [i32; 256], kept: us
         if count == 256 {
             return count;
         }
-        count = write_kept_without_branch(coeff_from_half_byte(eta, *byte % 16), values, count);
-        count = write_kept_without_branch(coeff_from_half_byte(eta, *byte / 16), values, count);
+        count = push_branchless(coeff_from_half_byte(eta, *byte % 16), values, count);
+        count = push_branchless(coeff_from_half_byte(eta, *byte / 16), values, count);
     }
     count
 }

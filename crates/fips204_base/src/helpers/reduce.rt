@@ -61,7 +61,7 @@ pub(crate) fn reduce_sum(a: i64) -> i32
     ensures congruent { residue result ≡ residue a }
     ensures small { nat_abs result ≤ 8380416 }
 {
-    partial_reduce32(folded(folded(a)) as i32)
+    partial_reduce32(folded_sum(folded_sum(a)) as i32)
 }
 
 /// A number congruent to `a` and smaller about a thousand times; `2^23` is 8191 modulo `q`.
@@ -71,6 +71,15 @@ fn folded(a: i64) -> i64
     ensures small { nat_abs result ≤ nat_abs a / 1024 + 8396800 }
 {
     a - (a >> 23) * i64::from(Q)
+}
+
+/// `folded` of such a sum: the product is one of numbers of 32 bits, which is one instruction.
+fn folded_sum(a: i64) -> i64
+    requires { nat_abs a ≤ 491619606331392 }
+    ensures congruent { residue result ≡ residue a }
+    ensures small { nat_abs result ≤ nat_abs a / 1024 + 8396800 }
+{
+    a - wide_product((a >> 23) as i32, Q)
 }
 
 /// A number congruent to `a` and below `q` in absolute value, for `a` below `2^31 - 2^22` in absolute value.

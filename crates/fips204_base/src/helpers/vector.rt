@@ -1,10 +1,8 @@
 //! Vectors of polynomials and of transforms.
 #![tactic(auto)]
 
-ghost use Rattle.std.specs.Prelude.{◌≡◌, ◌≤◌, ◌<◌, ◌*◌, ◌%◌, ℕ, ◌+ℤ◌, nat_abs};
+ghost use Rattle.std.specs.Prelude.{◌≡◌, ◌≤◌, ◌<◌, ◌*◌, ◌%◌, ℕ, ◌+ℤ◌, length, nat_abs};
 ghost use Rattle.fips204_base.specs.Residues.{residue, coefficients};
-ghost use Rattle.fips204_base.specs.Lanes.{lane};
-ghost use Rattle.fips204_base.specs.PlainTransforms.{lanes_value};
 ghost use Rattle.fips204_base.specs.Vectors.{MatrixWithin};
 ghost use Rattle.fips204_base.specs.Bounds.{vector_residues, row_value, AreRowProducts, VectorWithin, ValuesWithin, TransformsWithin, coefficient_of};
 
@@ -66,44 +64,41 @@ pub fn mat_vec_mul<const K: usize, const L: usize>(a: &[[T; L]; K], u: &[T; L]) 
 {
     let mut out = [T0; K];
     for i in 0..K {
-        out[i] = row_sum(&a[i], u);
+        write_row_sums(&a[i], u, &mut out[i].0);
     }
     out
 }
 
-/// The sum of the products of a row of the matrix with the vector, value by value.
-fn row_sum<const L: usize>(row: &[T; L], u: &[T; L]) -> T
+/// Writes the sums of the products of a row of the matrix with the vector, value by value.
+///
+/// Not inlined, so that the compiler still knows that `out` is apart from both.
+#[inline(never)]
+pub(crate) fn write_row_sums<const L: usize>(row: &[T; L], u: &[T; L], out: &mut [i32; 256])
     requires columns { L ≤ 7 }
     requires row { TransformsWithin 8380416 row.now }
     requires vector { TransformsWithin 8380416 u.now }
-    ensures values { (j : ℕ) → j < 256 → coefficients result.0 j ≡ row_value L row.now u.now j }
-    ensures small { ValuesWithin 8380416 result.0 }
+    ensures values { (j : ℕ) → j < 256 → coefficients out.new j ≡ row_value L row.now u.now j }
+    ensures small { ValuesWithin 8380416 out.new }
+    ensures places { length out.new ≡ 256 }
 {
-    let mut out = [0; 256];
     for j in 0..256 {
-        let mut values = [0; 8];
-        for k in 0..L {
-            values[k] = u[k].0[j];
-        }
-        out[j] = place_sum(row, &values, j);
+        out[j] = place_sum(row, u, j);
     }
-    T(out)
 }
 
-/// The sum of the products of a row of the matrix at one place with as many numbers, modulo `q` and below `q` in
-/// absolute value.
+/// The sum at one place, modulo `q` and below `q` in absolute value.
 #[inline(always)]
-pub(crate) fn place_sum<const L: usize>(row: &[T; L], u: &[i32; 8], j: usize) -> i32
+fn place_sum<const L: usize>(row: &[T; L], u: &[T; L], j: usize) -> i32
     requires columns { L ≤ 7 }
     requires row { TransformsWithin 8380416 row.now }
-    requires numbers { (k : ℕ) → k < 8 → nat_abs (lane u.now k) ≤ 8380416 }
+    requires vector { TransformsWithin 8380416 u.now }
     requires place { j < 256 }
-    ensures value { residue result ≡ lanes_value L row.now u.now j }
+    ensures value { residue result ≡ row_value L row.now u.now j }
     ensures small { nat_abs result ≤ 8380416 }
 {
     let mut sum = 0;
     for k in 0..L {
-        sum += wide_product(row[k].0[j], u[k]);
+        sum += wide_product(row[k].0[j], u[k].0[j]);
     }
     reduce_sum(sum)
 }

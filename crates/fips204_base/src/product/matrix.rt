@@ -1,22 +1,23 @@
 //! The matrix times a vector: the matrix as it stands, or row by row from its seed.
 #![tactic(auto)]
 
-ghost use Rattle.std.specs.Prelude.{◌≡◌, ◌≢◌, ◌<◌, ◌≤◌, ℕ, [], pos, nat_abs, slice_index_or};
-ghost use Rattle.fips204_base.specs.PlainTransforms.{plain_row, row_product};
+ghost use Rattle.std.specs.Prelude.{◌≡◌, ◌≢◌, ◌<◌, ◌≤◌, ℕ, pos, length, nat_abs, slice_index_or};
+ghost use Rattle.fips204_base.specs.PlainTransforms.{lane_values, plain_row, row_product};
 ghost use Rattle.fips204_base.specs.SamplerSteps.{OnSampled};
-ghost use Rattle.fips204_base.specs.Bounds.{TransformsWithin, VectorWithin, coefficient_of};
-ghost use Rattle.fips204_base.specs.Lanes.{lane};
-ghost use Rattle.fips204_base.specs.PlainTransforms.{lanes_value};
+ghost use Rattle.fips204_base.specs.Bounds.{TransformsWithin, VectorWithin, coefficient_at, coefficient_of, vector_residues};
+ghost use Rattle.fips204_base.specs.Lanes.{LanesWithin, lane};
+ghost use Rattle.fips204_base.specs.declared.types.T.{T};
 ghost use Rattle.fips204_base.specs.Residues.{residue};
 ghost use Rattle.fips204_base.specs.Vectors.{MatrixWithin, matrix_product, vector_coefficients};
 
-use super::Transforms;
+use super::{Transforms, write_at};
 use crate::fault::Fault;
 use crate::hashing::write_next_row;
-use crate::helpers::vector::place_sum;
+use crate::helpers::vector::write_row_sums;
 use crate::lanes::Lanes;
 use crate::types::{R, T, T0};
 use crate::xof::Xof;
+use std::marker::Model;
 
 /// Writes `A v`, with coefficients from 0 to `q - 1`; the matrix is given by its transforms. Coefficients of `v` are
 /// below `q` in absolute value.
@@ -41,26 +42,59 @@ pub fn write_matrix_product<const K: usize, const L: usize>(
     w.write_plain(out);
 }
 
-/// Writes `A v` for the matrix of `rho`, with one row of it at a time. `K` and `L` are those of a parameter set.
+/// Writes `A v` over `v`, for the matrix of `rho`, with one row of it at a time. `K` and `L` are those of a parameter set.
 /// Internal: serves the crate `fips204` alone.
 ///
-/// Errors: `SamplingLimit` if an entry reaches its limit.
+/// Errors: `SamplingLimit` if an entry reaches its limit; `v` may then have been written in part.
+///
+/// Not inlined, so that the rows leave the stack before the product is used.
+#[inline(never)]
 pub fn write_sampled_product<const K: usize, const L: usize, G: Xof>(
     rho: &[u8; 32],
-    v: &Transforms,
-    out: &mut Transforms,
+    v: &mut Transforms,
 ) -> Result<(), Fault>
     requires shape { (K ≤ 8) × (L ≤ 7) }
     ensures { OnSampled G.front rho.now K L result (λ a. (r n : ℕ) → r < K → n < 256
-        → vector_coefficients out.new r n ≡ matrix_product L a (vector_coefficients v.now) r n) }
+        → vector_coefficients v.new r n ≡ matrix_product L a (vector_coefficients v.old) r n) }
 {
     let mut row = [T0; L];
     let mut ahead = [T0; 4];
+    let mut values = Values::zeros();
+    v.write_values(&mut values);
     for r in 0..K {
         write_next_row::<K, L, G>(rho, r, &mut ahead, &mut row)?;
-        out.write_row_product(r, &row, v);
+        v.write_row_product(r, &row, &values);
     }
     Ok(())
+}
+
+/// The transforms of a vector of `L` polynomials, one after the other, as rows of the matrix are multiplied with them.
+///
+/// Contracts see these transforms.
+#[derive(Drop)]
+pub struct Values<const L: usize> {
+    transforms: [T; L],
+}
+
+impl<const L: usize> Model for Values<L> {
+    ghost use Rattle.std.specs.Prelude.{List};
+    ghost use Rattle.fips204_base.specs.declared.types.T.{T};
+    ghost use Rattle.fips204_base.specs.Bounds.{TransformsWithin};
+
+    ghost Value = { List T };
+
+    ghost view = { λ v. v.transforms };
+
+    ghost invariant = { λ v. TransformsWithin 8380416 v.transforms };
+}
+
+impl<const L: usize> Values<L> {
+    /// Transforms of zeros.
+    pub fn zeros() -> Values<L> {
+        Values {
+            transforms: [T0; L],
+        }
+    }
 }
 
 impl Transforms {
@@ -72,40 +106,63 @@ impl Transforms {
         ensures { (r n : ℕ) → r < K → n < 256
             → vector_coefficients self.new r n ≡ matrix_product L a.now (vector_coefficients self.old) r n }
     {
-        for n in 0..256usize {
-            self.values[n] = sums_at(a, self.values[n], n);
+        let mut values = Values::zeros();
+        self.write_values(&mut values);
+        for r in 0..K {
+            self.write_row_product(r, &a[r], &values);
         }
     }
 
-    /// Polynomial `r` becomes the product of a row of the matrix with `v`; the others stay.
-    pub fn write_row_product<const L: usize>(&mut self, r: usize, row: &[T; L], v: &Transforms)
+    /// Polynomial `r` becomes the product of a row of the matrix with the vector of these transforms; the others stay.
+    pub fn write_row_product<const L: usize>(&mut self, r: usize, row: &[T; L], v: &Values<L>)
         requires shape { (r < 8) × (L ≤ 7) }
         requires row { TransformsWithin 8380416 row.now }
         ensures product { (n : ℕ) → n < 256
-            → vector_coefficients self.new r n ≡ row_product L (plain_row row.now) (vector_coefficients v.now) n }
+            → vector_coefficients self.new r n ≡ row_product L (plain_row row.now) (plain_row v.now) n }
         ensures kept { (i n : ℕ) → i ≢ r → i < 8 → n < 256
             → vector_coefficients self.new i n ≡ vector_coefficients self.old i n }
     {
+        let mut sums = [0; 256];
+        write_row_sums(row, &v.transforms, &mut sums);
         for n in 0..256usize {
-            let sum = place_sum(row, &v.values[n].to_array(), n);
-            self.values[n] = self.values[n].with_lane(r, sum);
+            self.values[n] = self.values[n].with_lane(r, sums[n]);
         }
+    }
+
+    /// Writes the transforms, one after the other.
+    pub fn write_values<const L: usize>(&self, out: &mut Values<L>)
+        requires { L ≤ 7 }
+        ensures { (k n : ℕ) → k < L → n < 256 → plain_row out.new k n ≡ vector_coefficients self.now k n }
+    {
+        write_values(&self.values, &mut out.transforms);
     }
 }
 
-/// The sums of the products of the rows of the matrix with the lanes, at one place.
-#[inline(always)]
-fn sums_at<const K: usize, const L: usize>(a: &[[T; L]; K], x: Lanes, n: usize) -> Lanes
-    requires shape { (K ≤ 8) × (L ≤ 7) }
-    requires matrix { MatrixWithin 8380416 a.now }
-    requires range { (r : ℕ) → r < 8 → nat_abs (lane x r) ≤ 8380416 }
-    requires place { n < 256 }
-    ensures value { (r : ℕ) → r < K → residue (lane result r) ≡ lanes_value L (slice_index_or a.now r []) x n }
-    ensures small { (r : ℕ) → r < 8 → nat_abs (lane result r) ≤ 8380416 }
+/// Writes the transforms that are in the lanes.
+fn write_values<const L: usize>(lanes: &[Lanes; 256], out: &mut [T; L])
+    requires few { L ≤ 8 }
+    requires range { LanesWithin (λ x. x) 8 8380416 lanes.now }
+    ensures values { (k n : ℕ) → k < L → n < 256 → vector_residues out.new k n ≡ lane_values lanes.now k n }
+    ensures small { TransformsWithin 8380416 out.new }
 {
-    let mut entries = [0; 8];
-    for r in 0..K {
-        entries[r] = place_sum(&a[r], &x.to_array(), n);
+    for n in 0..256usize {
+        write_values_at(lanes[n], n, out);
     }
-    Lanes::from_array(entries)
+}
+
+/// Writes value `n` of each transform.
+#[inline(always)]
+fn write_values_at<const L: usize>(x: Lanes, n: usize, out: &mut [T; L])
+    requires few { L ≤ 8 }
+    requires place { n < 256 }
+    ensures value { (k : ℕ) (d : T) → k < L → coefficient_at (slice_index_or out.new k d).0 n ≡ lane x k }
+    ensures kept { (k m : ℕ) (d : T) → m ≢ n
+        → coefficient_at (slice_index_or out.new k d).0 m ≡ coefficient_at (slice_index_or out.old k d).0 m }
+    ensures size { length out.new ≡ L }
+    ensures places { (k : ℕ) (d : T) → k < L → length (slice_index_or out.new k d).0 ≡ 256 }
+{
+    let entries = x.to_array();
+    for k in 0..L {
+        write_at(&mut out[k].0, n, entries[k]);
+    }
 }

@@ -4,20 +4,20 @@
 ghost use Rattle.std.specs.Prelude.{◌≡◌, ◌↔◌, ◌++◌, ◌∷◌, [], true, IsTrue, IfOk, IfErr, OnOk};
 ghost use Rattle.mldsa_engine.specs.ProgramText.{text, hex_text, answer_word, Refuses};
 
+use crate::RunFault;
 use fips204::Fault;
-use mldsa_lines::RunFault;
 use std::alloc::Global;
 
 /// The result of a command.
 #[derive(Drop)]
-pub(crate) struct Output {
+pub(crate) struct Reply {
     /// What is written.
     pub(crate) text: Vec<u8>,
     /// Whether the command succeeded or its result is `yes`.
     pub(crate) success: bool,
 }
 
-impl Output {
+impl Reply {
     /// Adds the word for a result on a line. The output is a success as long as no result is `no`.
     pub(super) fn add_answer(&mut self, answer: bool) -> Result<(), RunFault>
         ensures text { OnOk result (self.new.text.items ≡ self.old.text.items ++ (answer_word answer ++ 10 ∷ [])) }
@@ -30,7 +30,7 @@ impl Output {
 }
 
 /// The words of an error on a line, and no success.
-pub(super) fn refuse(alloc: Global, fault: Fault) -> Result<Output, RunFault>
+pub(super) fn refuse(alloc: Global, fault: Fault) -> Result<Reply, RunFault>
     ensures given { IfOk result (λ output. Refuses fault output.text.items output.success) }
     ensures memory { IfErr result (λ fault. fault ≡ RunFault.Memory) }
 {
@@ -38,7 +38,7 @@ pub(super) fn refuse(alloc: Global, fault: Fault) -> Result<Output, RunFault>
 }
 
 /// The word for a result on a line, which is a success if it is `yes`.
-pub(super) fn tell(alloc: Global, answer: bool) -> Result<Output, RunFault>
+pub(super) fn tell(alloc: Global, answer: bool) -> Result<Reply, RunFault>
     ensures given { IfOk result (λ output. (output.text.items ≡ text (answer_word answer ∷ [])) × (output.success ≡ answer)) }
     ensures memory { IfErr result (λ fault. fault ≡ RunFault.Memory) }
 {
@@ -53,17 +53,17 @@ fn word_of(answer: bool) -> &'static str
 }
 
 /// A line of these characters, and whether it is a success.
-fn word_line(alloc: Global, word: &str, success: bool) -> Result<Output, RunFault>
+fn word_line(alloc: Global, word: &str, success: bool) -> Result<Reply, RunFault>
     ensures given { IfOk result (λ output. (output.text.items ≡ text (word.now ∷ [])) × (output.success ≡ success)) }
     ensures memory { IfErr result (λ fault. fault ≡ RunFault.Memory) }
 {
     let mut text = Vec::new(alloc);
     push_line(&mut text, word)?;
-    Ok(Output { text, success })
+    Ok(Reply { text, success })
 }
 
 /// A line that spells these bytes in lower case hex.
-pub(super) fn one_line(alloc: Global, bytes: &[u8]) -> Result<Output, RunFault>
+pub(super) fn one_line(alloc: Global, bytes: &[u8]) -> Result<Reply, RunFault>
     ensures given { IfOk result (λ output. (output.text.items ≡ hex_text (bytes.now ∷ [])) × (output.success ≡ true)) }
     ensures memory { IfErr result (λ fault. fault ≡ RunFault.Memory) }
 {
@@ -72,7 +72,7 @@ pub(super) fn one_line(alloc: Global, bytes: &[u8]) -> Result<Output, RunFault>
 }
 
 /// Two lines that spell these bytes in lower case hex.
-pub(super) fn two_lines(alloc: Global, first: &[u8], second: &[u8]) -> Result<Output, RunFault>
+pub(super) fn two_lines(alloc: Global, first: &[u8], second: &[u8]) -> Result<Reply, RunFault>
     ensures given { IfOk result (λ output. (output.text.items ≡ hex_text (first.now ∷ second.now ∷ []))
         × (output.success ≡ true)) }
     ensures memory { IfErr result (λ fault. fault ≡ RunFault.Memory) }

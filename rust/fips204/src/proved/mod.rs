@@ -8,8 +8,6 @@
 
 pub mod fips204;
 pub mod fips204_base;
-pub mod fips204_bytes;
-pub mod fips204_der;
 pub mod fips204_shake;
 pub mod mldsa_c;
 pub mod shake;

@@ -7,5 +7,4 @@
 #![allow(clippy::missing_errors_doc, clippy::missing_panics_doc)] // comments say 'Errors:'; no call panics
 
 pub mod mlsign_engine;
-pub mod mlsign_files;
 pub mod mlsign_program;

@@ -3,8 +3,8 @@ use Rattle.fips204_base.proofs.Names.{get_or_default, residue, inverse_transform
 use Rattle.fips204_base.proofs.Products.{inverse_residue}
 use Rattle.fips204_base.proofs.ntt.write_inv_ntt.Goals as goal
 
-pub write_inv_layer-requires : goal.write_inv_layer-requires
-write_inv_layer-requires g c =
+pub write_layer-requires : goal.write_layer-requires
+write_layer-requires g c =
     let shape = layer_shape c.loop-s.s c.loop-s-test.true in
     let product : 2 ^ (7 - c.loop-s.s) * 2 ^ c.loop-s.s ≡ 128 = omega (arith, shape.2) in
     let whole : c.loop-s.count * c.loop-s.len ≡ 128 = rw (c.loop-s.invariant.count, c.loop-s.invariant.len, shape.0) product in
@@ -37,20 +37,20 @@ loop-s-preserved g c =
     let whole : c.loop-s.count * c.loop-s.len ≡ 128 = rw (c.loop-s.invariant.count, c.loop-s.invariant.len, shape.0) product in
     let least = factor_positive (2 ^ c.loop-s.s) (2 ^ (7 - c.loop-s.s)) shape.2 in
     record {
-      size = c.write_inv_layer.ensures.size;
+      size = c.write_layer.ensures.size;
       count = halved c.loop-s.s c.loop-s.count c.loop-s-test.true c.loop-s.invariant.count;
       len = omega (arith, c.loop-s.invariant.len, shape.3);
-      products = omega (arith, c.write_inv_layer.ensures.products, c.loop-s.invariant.products);
-      sums = omega (arith, c.write_inv_layer.ensures.sums, c.loop-s.invariant.sums);
+      products = omega (arith, c.write_layer.ensures.products, c.loop-s.invariant.products);
+      sums = omega (arith, c.write_layer.ensures.sums, c.loop-s.invariant.sums);
       range = λ p j d q h. omega (
         arith,
         shape.3,
-        inverse_layer_sizes c.loop-s.count c.loop-s.len (8380416 * 2 ^ c.loop-s.s) (lane_at g.V.Residue.lanes j d c.loop-s.w) (lane_at g.V.Residue.lanes j d c.write_inv_layer.new.w)
-            whole (c.write_inv_layer.ensures.values j d h) (omega (arith, least)) (λ a b. c.loop-s.invariant.range a j d b h) p q,
+        inverse_layer_sizes c.loop-s.count c.loop-s.len (8380416 * 2 ^ c.loop-s.s) (lane_at g.V.Residue.lanes j d c.loop-s.w) (lane_at g.V.Residue.lanes j d c.write_layer.new.w)
+            whole (c.write_layer.ensures.values j d h) (omega (arith, least)) (λ a b. c.loop-s.invariant.range a j d b h) p q,
       );
-      values = λ j d h. sums_next c.loop-s.s c.loop-s.count c.loop-s.len (residues g.V.Residue.lanes j d c.args.w.now) (residues g.V.Residue.lanes j d c.loop-s.w) (residues g.V.Residue.lanes j d c.write_inv_layer.new.w)
+      values = λ j d h. sums_next c.loop-s.s c.loop-s.count c.loop-s.len (residues g.V.Residue.lanes j d c.args.w.now) (residues g.V.Residue.lanes j d c.loop-s.w) (residues g.V.Residue.lanes j d c.write_layer.new.w)
           c.loop-s-test.true c.loop-s.invariant.count c.loop-s.invariant.len
-          (inverse_layer_of_blocks c.loop-s.count c.loop-s.len (lane_at g.V.Residue.lanes j d c.loop-s.w) (lane_at g.V.Residue.lanes j d c.write_inv_layer.new.w) (c.write_inv_layer.ensures.values j d h)) (c.loop-s.invariant.values j d h);
+          (inverse_layer_of_blocks c.loop-s.count c.loop-s.len (lane_at g.V.Residue.lanes j d c.loop-s.w) (lane_at g.V.Residue.lanes j d c.write_layer.new.w) (c.write_layer.ensures.values j d h)) (c.loop-s.invariant.values j d h);
     }
 
 pub loop-i-init : goal.loop-i-init

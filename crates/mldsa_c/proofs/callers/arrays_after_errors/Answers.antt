@@ -1,7 +1,7 @@
 use Rattle.std.proofs.Common.{inl, inr}
 use Rattle.fips204.specs.Framing.{represented, pre_hash_fault}
-use Rattle.fips204_bytes.specs.Bytes as bytes
-use Rattle.fips204_bytes.specs.Prepared as prepared
+use Rattle.fips204_shake.specs.Bytes as bytes
+use Rattle.fips204_shake.specs.Prepared as prepared
 use Rattle.fips204_shake.specs.Fronts.{shake256_front, shake128_front}
 use Rattle.mldsa_c.proofs.ByStatus.{either, failed}
 use Rattle.mldsa_c.proofs.Errors.{signature_left, prepared_signature_left, begun_left, state_left, digest_told}

@@ -1,4 +1,4 @@
-use Rattle.fips204_der.specs.Keys.{Seed}
+use Rattle.fips204_shake.specs.Keys.{Seed}
 use Rattle.mldsa_c.proofs.KeyFiles.{public_file, seed_file}
 use Rattle.mldsa_c.proofs.callers.written_keys_are_read.Goals as goal
 

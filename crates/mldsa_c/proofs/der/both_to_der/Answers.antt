@@ -1,6 +1,6 @@
 use Rattle.std.proofs.Common.{◌≤◌, sym, ◌∙◌, arith}
 use Rattle.std.proofs.lemmas.List.{length-take-le}
-use Rattle.fips204_der.proofs.KeyFiles.{private_small}
+use Rattle.fips204_shake.proofs.KeyFiles.{private_small}
 use Rattle.mldsa_c.proofs.der.both_to_der.Goals as goal
 
 pub slice_bounds-expanded-end : goal.slice_bounds-expanded-end

@@ -1,6 +1,6 @@
 use Rattle.std.proofs.Common.{◌≤◌, length, sym, ◌∙◌, arith}
 use Rattle.std.proofs.lemmas.List.{length-take-le}
-use Rattle.fips204_der.proofs.KeyFiles.{private_small}
+use Rattle.fips204_shake.proofs.KeyFiles.{private_small}
 use Rattle.mldsa_c.proofs.der.check_both.Goals as goal
 
 pub slice_bounds-made-end-2 : goal.slice_bounds-made-end-2

@@ -1,6 +1,6 @@
 use Rattle.std.proofs.Common.{refl, ◌∙◌}
 use Rattle.fips204.specs.Sets.{named_set}
-use Rattle.fips204_der.specs.Keys.{private_length}
+use Rattle.fips204_shake.specs.Keys.{private_length}
 use Rattle.mldsa_c.specs.Der.{IfConsistent, Has}
 use Rattle.mldsa_c.specs.Pieces.{Keeps}
 use Rattle.mldsa_c.proofs.KeyFiles.{of_key, of_status}

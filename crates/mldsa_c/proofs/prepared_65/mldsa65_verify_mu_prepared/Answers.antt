@@ -1,3 +1,4 @@
+-- `tools/sets` made this file from that of 44: edit that one.
 use Rattle.mldsa_c.proofs.prepared_65.mldsa65_verify_mu_prepared.Goals as goal
 
 pub returns : goal.returns

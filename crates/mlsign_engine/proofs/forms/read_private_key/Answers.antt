@@ -1,5 +1,5 @@
 use Rattle.std.proofs.Common.{◌≡◌, Ok, refl, rules}
-use Rattle.fips204_der.specs.Keys.{private_parts}
+use Rattle.fips204_shake.specs.Keys.{private_parts}
 use Rattle.mlsign_engine.specs.Forms.{HasPrivate}
 use Rattle.mlsign_engine.specs.declared.forms.Form.TheVariants.{Pem, Der, Raw}
 use Rattle.mlsign_engine.proofs.FormFiles.{if_no_keys}

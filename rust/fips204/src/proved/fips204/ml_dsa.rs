@@ -1,13 +1,11 @@
 // Made by tools/erase of crates/fips204/src/ml_dsa.rt. Change that, not this.
 //! What the parameter sets share (FIPS 204, sections 5 and 6).
 
-mod attempt;
 mod commitment_hash;
 mod decoding;
 mod framing;
 mod key_generation;
 mod matrix_bytes;
-mod rejection;
 mod signing;
 mod verification;
 mod whole;

@@ -2,8 +2,6 @@
 //! Generators of random bytes, and the traits that every parameter set implements: making keys, signing, verifying, and
 //! keys as bytes.
 
-use crate::proved::fips204::input::Input;
-use crate::proved::fips204::ml_dsa::check_input;
 use crate::proved::fips204_base::Fault;
 
 /// The error of a generator that returned no bytes.
@@ -43,28 +41,6 @@ pub(crate) fn draw<R: CryptoRngCore>(rng: &mut R, refusal: Fault) -> Result<[u8;
     }
 }
 
-/// The random bytes of a signing hook: 32 zeros without `hedged`; with it, 32 bytes drawn from the generator,
-/// or `Fault::InternalRng` if that fails.
-pub(crate) fn draw_if<R: CryptoRngCore>(hedged: bool, rng: &mut R) -> Result<[u8; 32], Fault> {
-    if hedged {
-        draw(rng, Fault::InternalRng)
-    } else {
-        Ok([0; 32])
-    }
-}
-
-/// Signs an input with 32 random bytes of the generator, which is asked once, and not for an input that is rejected.
-/// Returns `refusal` if the generator fails.
-fn sign_drawn<K: Signer, R: CryptoRngCore>(
-    key: &K,
-    rng: &mut R,
-    input: &Input<'_>,
-    refusal: Fault,
-) -> Result<K::Signature, Fault> {
-    check_input(input)?;
-    key.sign_input(&draw(rng, refusal)?, input)
-}
-
 /// Key generation (FIPS 204, Algorithm 1). The private key of a pair is consistent, the public key is the one that is
 /// derived from it, and each is what decoding its bytes returns. So what the private key signs, also after it was
 /// stored, is accepted by the public key, also after it was stored.
@@ -88,7 +64,7 @@ pub trait KeyGen: Sized {
     fn keygen_from_seed(xi: &[u8; 32]) -> Result<(Self::PublicKey, Self::PrivateKey), Fault>;
 }
 
-/// Signing (FIPS 204, Algorithms 2 and 4), with a plain or a prepared key.
+/// Signing (FIPS 204, Algorithms 2 and 4).
 pub trait Signer: Sized {
     /// The byte array of a signature.
     type Signature;
@@ -96,25 +72,6 @@ pub trait Signer: Sized {
     /// The public key of a pair, which verifies signatures of this type. A generic function over a `Signer` alone
     /// verifies with `K::PublicKey`: it needs no second bound.
     type PublicKey: Verifier<Signature = Self::Signature>;
-
-    /// Signs an input with the random bytes `seed`; 32 zeros give the deterministic variant.
-    ///
-    /// Errors: those of a message and of a digest, as the calls below say, for these inputs; then
-    /// `Fault::SamplingLimit` and `Fault::TooManyAttempts` as for `try_sign_with_seed`.
-    fn sign_input(&self, seed: &[u8; 32], input: &Input<'_>) -> Result<Self::Signature, Fault>;
-
-    /// Signs an input. The 32 random bytes are zeros without `hedged`; with it they are drawn from the generator, which
-    /// is asked once.
-    ///
-    /// Errors: `Fault::InternalRng` if the generator fails; then those of `sign_input`.
-    fn sign_input_with_rng<R: CryptoRngCore>(
-        &self,
-        rng: &mut R,
-        input: &Input<'_>,
-        hedged: bool,
-    ) -> Result<Self::Signature, Fault> {
-        self.sign_input(&draw_if(hedged, rng)?, input)
-    }
 
     /// Signs a message (Algorithm 2) with 32 random bytes of the generator, which is asked once.
     ///
@@ -126,9 +83,7 @@ pub trait Signer: Sized {
         rng: &mut R,
         message: &[u8],
         ctx: &[u8],
-    ) -> Result<Self::Signature, Fault> {
-        sign_drawn(self, rng, &Input::Message(message, ctx), Fault::SignRng)
-    }
+    ) -> Result<Self::Signature, Fault>;
 
     /// Signs a message (Algorithm 2) with the random bytes `seed`; 32 zeros give the deterministic variant.
     ///
@@ -139,9 +94,7 @@ pub trait Signer: Sized {
         seed: &[u8; 32],
         message: &[u8],
         ctx: &[u8],
-    ) -> Result<Self::Signature, Fault> {
-        self.sign_input(seed, &Input::Message(message, ctx))
-    }
+    ) -> Result<Self::Signature, Fault>;
 
     /// Signs a digest (Algorithm 4) with 32 random bytes of the generator, which is asked once. `hash_oid` is
     /// the DER object identifier of the hash function.
@@ -155,14 +108,7 @@ pub trait Signer: Sized {
         hash: &[u8],
         ctx: &[u8],
         hash_oid: &[u8],
-    ) -> Result<Self::Signature, Fault> {
-        sign_drawn(
-            self,
-            rng,
-            &Input::Digest(hash, ctx, hash_oid),
-            Fault::HashRng,
-        )
-    }
+    ) -> Result<Self::Signature, Fault>;
 
     /// Signs a digest (Algorithm 4) with the random bytes `seed`.
     ///
@@ -174,9 +120,7 @@ pub trait Signer: Sized {
         hash: &[u8],
         ctx: &[u8],
         hash_oid: &[u8],
-    ) -> Result<Self::Signature, Fault> {
-        self.sign_input(seed, &Input::Digest(hash, ctx, hash_oid))
-    }
+    ) -> Result<Self::Signature, Fault>;
 
     /// Computes the public key of the private key: its `rho` and `tr`, with t1 as in Algorithm 6.
     ///
@@ -184,18 +128,13 @@ pub trait Signer: Sized {
     fn get_public_key(&self) -> Result<Self::PublicKey, Fault>;
 }
 
-/// Verifying (FIPS 204, Algorithms 3 and 5), with a plain or a prepared key.
+/// Verifying (FIPS 204, Algorithms 3 and 5).
 pub trait Verifier: Sized {
     /// The byte array of a signature.
     type Signature;
 
-    /// Verifies the signature of an input. Returns false if the input is rejected.
-    fn accepts_input(&self, input: &Input<'_>, signature: &Self::Signature) -> bool;
-
     /// Verifies the signature of a message (Algorithm 3). Returns false if `ctx` has more than 255 bytes.
-    fn verify(&self, message: &[u8], signature: &Self::Signature, ctx: &[u8]) -> bool {
-        self.accepts_input(&Input::Message(message, ctx), signature)
-    }
+    fn verify(&self, message: &[u8], signature: &Self::Signature, ctx: &[u8]) -> bool;
 
     /// Verifies the signature of a digest (Algorithm 5). Returns false if `ctx` has more than 255 bytes, or
     /// if `check_pre_hash` returns an error.
@@ -205,9 +144,7 @@ pub trait Verifier: Sized {
         signature: &Self::Signature,
         ctx: &[u8],
         hash_oid: &[u8],
-    ) -> bool {
-        self.accepts_input(&Input::Digest(hash, ctx, hash_oid), signature)
-    }
+    ) -> bool;
 }
 
 /// A signature scheme: every signature that a pair makes verifies under the public key of that pair.

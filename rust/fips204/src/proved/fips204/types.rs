@@ -1,13 +1,14 @@
 // Made by tools/erase of crates/fips204/src/types.rt. Change that, not this.
-//! Polynomials, and keys as values.
+//! Polynomials, the numbers of each parameter set, and by name the keys.
 
 pub mod pre_hash;
-mod prepared;
 
+pub(crate) use crate::proved::fips204::keys::KeyTransforms;
+pub use crate::proved::fips204::keys::{
+    PreparedPrivateKey, PreparedPublicKey, PrivateKey, PublicKey,
+};
 pub use crate::proved::fips204_base::types::{R, R0, T, T0, Zq};
 use core::marker::PhantomData;
-pub(crate) use prepared::KeyTransforms;
-pub use prepared::{PreparedPrivateKey, PreparedPublicKey};
 
 /// The numbers of a parameter set (FIPS 204, Tables 1 and 2): those of one of the three sets.
 #[derive(Clone, Copy, Debug, PartialEq, Eq)]
@@ -95,51 +96,3 @@ pub const ML_DSA_87: Params = Params {
 
 /// Key generation of the parameter set with a matrix of `K` rows and `L` columns, over the XOFs `H` and `G`.
 pub struct KG<const K: usize, const L: usize, H, G>(PhantomData<(H, G)>);
-
-/// A public key of a parameter set with a matrix of `K` rows and `L` columns, over the XOFs `H` and `G`.
-///
-/// Contracts see it as its parts: the matrix's seed `rho`, the hash `tr` of its bytes, and `t1`, `K`
-/// polynomials with coefficients from 0 to 1023.
-pub struct PublicKey<const K: usize, const L: usize, H, G> {
-    pub(crate) rho: [u8; 32],
-    pub(crate) tr: [u8; 64],
-    pub(crate) t1: [R; K],
-    pub(crate) streams: PhantomData<(H, G)>,
-}
-
-impl<const K: usize, const L: usize, H, G> Clone for PublicKey<K, L, H, G> {
-    /// A copy of the key.
-    fn clone(&self) -> Self {
-        PublicKey { ..*self }
-    }
-}
-
-impl<const K: usize, const L: usize, H, G> PublicKey<K, L, H, G> {
-    /// The hash of the key's bytes (64 bytes of `H`), which signing and verifying hash before the message. The
-    /// key's parts are in range.
-    pub fn tr(&self) -> &[u8; 64] {
-        &self.tr
-    }
-}
-
-/// A private key of a parameter set with a matrix of `K` rows and `L` columns, over the XOFs `H` and `G`.
-///
-/// Contracts see it as its parts: the matrix's seed `rho`, the seed `key` of the masks, the hash `tr` of
-/// the public key's bytes, the vectors `s1` of `L` and `s2` of `K` polynomials with coefficients in
-/// `[-eta, eta]`, and `t0`, `K` polynomials with coefficients in `[-4095, 4096]`.
-pub struct PrivateKey<const K: usize, const L: usize, H, G> {
-    pub(crate) rho: [u8; 32],
-    pub(crate) cap_k: [u8; 32],
-    pub(crate) tr: [u8; 64],
-    pub(crate) s1: [R; L],
-    pub(crate) s2: [R; K],
-    pub(crate) t0: [R; K],
-    pub(crate) streams: PhantomData<(H, G)>,
-}
-
-impl<const K: usize, const L: usize, H, G> Clone for PrivateKey<K, L, H, G> {
-    /// A copy of the key.
-    fn clone(&self) -> Self {
-        PrivateKey { ..*self }
-    }
-}

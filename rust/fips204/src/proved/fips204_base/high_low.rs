@@ -15,14 +15,17 @@ pub fn power2round<const K: usize>(r: &[R; K]) -> ([R; K], [R; K]) {
     (high, low)
 }
 
-/// `power2round` of each coefficient of `r`, in place: the high parts are written into `high`, and the low parts
-/// over `r`. Internal: serves the crate `fips204` alone.
-pub fn write_power2round<const K: usize>(r: &mut [R; K], high: &mut [R; K]) {
-    write_zip_vectors(high, r, |_, x| power2round_coefficient(x).0);
-    write_map_vector(r, |x| power2round_coefficient(x).1);
+crate::avx2::with_avx2! {
+    /// `power2round` of each coefficient of `r`, in place: the high parts are written into `high`, and the low parts
+    /// over `r`. Internal: serves the crate `fips204` alone.
+    pub fn write_power2round<const K: usize>(r: &mut [R; K], high: &mut [R; K]) {
+        write_zip_vectors(high, r, |_, x| power2round_coefficient(x).0);
+        write_map_vector(r, |x| power2round_coefficient(x).1);
+    }
 }
 
 /// `power2round` of one coefficient.
+#[inline(always)]
 fn power2round_coefficient(r: Zq) -> (Zq, Zq) {
     // r0 = r mod± 2^d, r1 = (r - r0) / 2^d
     let high = (r + 4095) >> D;
@@ -32,6 +35,7 @@ fn power2round_coefficient(r: Zq) -> (Zq, Zq) {
 /// `Decompose` (FIPS 204, Algorithm 36) of `r` modulo `q`, as the high and the low bits, where
 /// `gamma2` is 95232 or 261888 and `r` is below `2^31 - 2^22` in absolute value. The high bits are
 /// from 0 to 43 or to 15, the low bits from `-gamma2` to `gamma2`.
+#[inline(always)]
 pub fn decompose(gamma2: i32, r: Zq) -> (Zq, Zq) {
     // r+ = r mod q, r0 = r+ mod± (2 gamma2)
     let residue = full_reduce32(r);
@@ -49,6 +53,7 @@ pub fn decompose(gamma2: i32, r: Zq) -> (Zq, Zq) {
 
 /// The quotient of `r` by `2 gamma2` that is nearest, the lower one of two. The reciprocals are of
 /// `2 gamma2 / 128`: `1488 * 11275` is `2^24 - 16`, and `4092 * 1025` is `2^22 - 4`.
+#[inline(always)]
 fn nearest_quotient(gamma2: u32, r: u32) -> u32 {
     let blocks = (r + 127) >> 7;
     if gamma2 == 95232 {
@@ -59,17 +64,20 @@ fn nearest_quotient(gamma2: u32, r: u32) -> u32 {
 }
 
 /// `HighBits` (FIPS 204, Algorithm 37), under the conditions of `decompose`.
+#[inline(always)]
 pub fn high_bits(gamma2: i32, r: Zq) -> Zq {
     decompose(gamma2, r).0
 }
 
 /// `LowBits` (FIPS 204, Algorithm 38), under the conditions of `decompose`.
+#[inline(always)]
 pub fn low_bits(gamma2: i32, r: Zq) -> Zq {
     decompose(gamma2, r).1
 }
 
 /// `MakeHint` (FIPS 204, Algorithm 39): whether the high bits of `r + z` differ from those of `r`,
 /// where `gamma2` is 95232 or 261888 and `z` and `r` are at most 1071644671 in absolute value.
+#[inline(always)]
 pub fn make_hint(gamma2: i32, z: Zq, r: Zq) -> bool {
     // r1 = HighBits(r), v1 = HighBits(r + z), r1 != v1
     high_bits(gamma2, r) != high_bits(gamma2, r + z)
@@ -77,6 +85,7 @@ pub fn make_hint(gamma2: i32, z: Zq, r: Zq) -> bool {
 
 /// `UseHint` (FIPS 204, Algorithm 40): the high bits of `r`, which a hint moves by one, up where the low bits are
 /// above 0 and else down, and round at the ends. `h` is 0 or 1, and the conditions of `decompose` hold.
+#[inline(always)]
 pub fn use_hint(gamma2: i32, h: Zq, r: Zq) -> Zq {
     // (r1, r0) = Decompose(r), m = (q - 1) / (2 gamma2)
     let (high, low) = decompose(gamma2, r);
@@ -94,6 +103,7 @@ pub fn use_hint(gamma2: i32, h: Zq, r: Zq) -> Zq {
 }
 
 /// The number of values of high bits: `(q - 1) / (2 gamma2)`.
+#[inline(always)]
 pub(crate) fn high_count(gamma2: u32) -> Zq {
     if gamma2 == 95232 { 44 } else { 16 }
 }

@@ -4,8 +4,8 @@
 use crate::proved::fips204_base::Q;
 use crate::proved::fips204_base::helpers::count::Count;
 use crate::proved::fips204_base::helpers::residue::Residue;
-use crate::proved::fips204_base::helpers::zeta_table::zeta_mont;
-use crate::simd::{i32x4, i32x8, i64x4};
+use crate::proved::fips204_base::helpers::zeta_table::{neg_zeta_words, zeta_words};
+use crate::simd::{i32x8, i64x4};
 
 /// Eight `i32` lanes. Contracts see the list of them.
 #[derive(Clone, Copy)]
@@ -32,21 +32,21 @@ impl Lanes {
     }
 
     /// The first four lanes, and after them those of `other`.
-    pub(crate) fn beside(self, other: Lanes) -> Lanes {
+    pub(crate) fn concat_low(self, other: Lanes) -> Lanes {
         let [a, b, c, d, _, _, _, _] = self.to_array();
         let [e, f, g, h, _, _, _, _] = other.to_array();
         Lanes::from_array([a, b, c, d, e, f, g, h])
     }
 
     /// The last four lanes, and after them the first four.
-    pub(crate) fn halves_exchanged(self) -> Lanes {
+    pub(crate) fn swap_halves(self) -> Lanes {
         let [a, b, c, d, e, f, g, h] = self.to_array();
         Lanes::from_array([e, f, g, h, a, b, c, d])
     }
 
     /// Each lane times a factor in Montgomery form, modulo `q` and below `q` in absolute value, as the factor is.
     pub(crate) fn times(self, factor: i32) -> Lanes {
-        mont_products(self, factor)
+        mont_products(self, factor_words(factor))
     }
 
     /// Each lane minus that of other lanes, modulo `q` and below `q` in absolute value, as lanes of both are.
@@ -74,13 +74,13 @@ impl Residue for Lanes {
     #[inline(always)]
     fn mul_zeta(self, m: usize, meter: &mut Count) -> Lanes {
         meter.products += 1;
-        mont_products(self, zeta_mont(m))
+        mont_products(self, zeta_words(m))
     }
 
     #[inline(always)]
     fn mul_neg_zeta(self, m: usize, meter: &mut Count) -> Lanes {
         meter.products += 1;
-        mont_products(self, -zeta_mont(m))
+        mont_products(self, neg_zeta_words(m))
     }
 
     #[inline(always)]
@@ -92,32 +92,38 @@ impl Residue for Lanes {
     #[inline(always)]
     fn finish(self) -> Lanes {
         // 8347681 * 2^32 is 16382 modulo q
-        raised(mont_products(self, 16382))
+        add_q_if_negative(mont_products(self, factor_words(16382)))
     }
 }
 
-/// Each lane times the factor and the inverse of `2^32` modulo `q`, below `q` in absolute value.
+/// Each lane times a factor, which comes as its words, and the inverse of `2^32` modulo `q`, below `q` in absolute value.
 #[inline(always)]
-fn mont_products(x: Lanes, factor: i32) -> Lanes {
-    let low = wide_products(x.0.extract::<0, 4>(), factor);
-    let high = wide_products(x.0.extract::<4, 4>(), factor);
-    Lanes(low.shuffle(high, [1, 3, 5, 7, 9, 11, 13, 15]))
+fn mont_products(x: Lanes, words: i64) -> Lanes {
+    let word = i64x4::splat(32);
+    let both = pairs(x.0);
+    let even = wide_products((both << word) >> word, words);
+    let odd = wide_products(both >> word, words);
+    Lanes(even.shuffle(odd, [1, 9, 3, 11, 5, 13, 7, 15]))
 }
 
 /// Those products of four lanes, each of them the high half of 64 bits: the odd lanes.
 ///
-/// A wide product of numbers of 32 bits is one instruction. The factor and its product with the inverse of `q` come as
-/// one number of 64 bits, of which both halves are used: so the compiler still knows, where a loop keeps them, that each
-/// has 32 bits.
+/// A product of numbers of 32 bits in lanes of 64 is one instruction. Both words come as one number of 64 bits: so the
+/// compiler still knows, where a loop keeps them, that each has 32 bits.
 #[inline(always)]
-fn wide_products(x: i32x4, factor: i32) -> i32x8 {
-    let both = i64x4::splat(factor_words(factor));
+fn wide_products(x: i64x4, words: i64) -> i32x8 {
+    let both = i64x4::splat(words);
     let word = i64x4::splat(32);
-    let wide = x.cast::<i64>();
     // t = the low word of x factor q^-1, and x factor - t q is a multiple of 2^32
-    let low = ((wide * (both >> word)) << word) >> word;
-    let whole = wide * ((both << word) >> word) - low * i64x4::splat(8380417);
+    let low = ((x * (both >> word)) << word) >> word;
+    let whole = x * ((both << word) >> word) - low * i64x4::splat(8380417);
     halves(whole)
+}
+
+/// Lanes as numbers of 64 bits, whose high halves are the odd lanes, and whose low ones have the bits of the even lanes.
+#[inline(always)]
+fn pairs(x: i32x8) -> i64x4 {
+    i64x4::from_le_bytes(x.to_le_bytes())
 }
 
 /// Numbers of 64 bits as their halves, of which the high ones are the odd lanes.
@@ -126,8 +132,8 @@ fn halves(x: i64x4) -> i32x8 {
     i32x8::from_le_bytes(x.to_le_bytes())
 }
 
-/// The number of 64 bits whose low word has the bits of `factor`, and whose high word gives the lowest 32 bits of
-/// `factor` where it is multiplied by `q`; 58728449 is the inverse of `q` modulo `2^32`.
+/// The words of a factor: the low one is the factor, and the high one gives its lowest 32 bits where it is multiplied by
+/// `q`; 58728449 is the inverse of `q` modulo `2^32`.
 #[inline(always)]
 fn factor_words(factor: i32) -> i64 {
     u64::from(factor.cast_unsigned())
@@ -137,6 +143,6 @@ fn factor_words(factor: i32) -> i64 {
 
 /// Each lane modulo `q`, from 0 to `q - 1`, for lanes below `q` in absolute value.
 #[inline(always)]
-fn raised(x: Lanes) -> Lanes {
+fn add_q_if_negative(x: Lanes) -> Lanes {
     Lanes(x.0 - (x.0 >> i32x8::splat(31)) * i32x8::splat(Q))
 }

@@ -55,7 +55,7 @@ pub(crate) fn write_ntt<V: Residue>(w: &mut [V; 256], meter: &mut V::Meter) {
     let mut count = 1;
     let mut len = 128;
     for s in 0..8usize {
-        write_layer(w, count, len, meter);
+        write_layer::<V, Forwards>(w, count, len, meter);
         count *= 2;
         len /= 2;
     }
@@ -64,35 +64,92 @@ pub(crate) fn write_ntt<V: Residue>(w: &mut [V; 256], meter: &mut V::Meter) {
     }
 }
 
+/// The butterflies of a transform, or those of its inverse.
+trait Butterfly: Sized {
+    /// The power of zeta of block `b` of `count`.
+    fn power(count: usize, b: usize) -> usize;
+
+    /// One butterfly.
+    fn apply<V: Residue>(a: V, b: V, m: usize, meter: &mut V::Meter) -> (V, V);
+}
+
+/// Those of the transform: `a + zeta b` and `a - zeta b`.
+struct Forwards;
+
+impl Butterfly for Forwards {
+    #[inline(always)]
+    fn power(count: usize, b: usize) -> usize {
+        count + b
+    }
+
+    #[inline(always)]
+    fn apply<V: Residue>(a: V, b: V, m: usize, meter: &mut V::Meter) -> (V, V) {
+        // t = zeta w_hat[j + len], w_hat[j + len] = w_hat[j] - t, w_hat[j] = w_hat[j] + t
+        let t = b.mul_zeta(m, meter);
+        let x = a.add(t, meter);
+        let y = a.sub(t, meter);
+        (x, y)
+    }
+}
+
+/// Those of the inverse transform: `a + b` and `-zeta (a - b)`.
+struct Backwards;
+
+impl Butterfly for Backwards {
+    #[inline(always)]
+    fn power(count: usize, b: usize) -> usize {
+        2 * count - 1 - b
+    }
+
+    #[inline(always)]
+    fn apply<V: Residue>(a: V, b: V, m: usize, meter: &mut V::Meter) -> (V, V) {
+        // t = w[j], w[j] = t + w[j + len], w[j + len] = -zeta (t - w[j + len])
+        let x = a.add(b, meter);
+        let t = a.sub(b, meter);
+        let y = t.mul_neg_zeta(m, meter);
+        (x, y)
+    }
+}
+
 /// One layer: `count` blocks of `2 * len` values. Each layer is compiled with its constants.
 #[inline(always)]
-fn write_layer<V: Residue>(w: &mut [V; 256], count: usize, len: usize, meter: &mut V::Meter) {
+fn write_layer<V: Residue, B: Butterfly>(
+    w: &mut [V; 256],
+    count: usize,
+    len: usize,
+    meter: &mut V::Meter,
+) {
     match len {
-        1 => write_blocks(w, 128, 1, meter),
-        2 => write_blocks(w, 64, 2, meter),
-        4 => write_blocks(w, 32, 4, meter),
-        8 => write_blocks(w, 16, 8, meter),
-        16 => write_blocks(w, 8, 16, meter),
-        32 => write_blocks(w, 4, 32, meter),
-        64 => write_blocks(w, 2, 64, meter),
-        128 => write_blocks(w, 1, 128, meter),
-        _ => write_blocks(w, count, len, meter),
+        1 => write_blocks::<V, B>(w, 128, 1, meter),
+        2 => write_blocks::<V, B>(w, 64, 2, meter),
+        4 => write_blocks::<V, B>(w, 32, 4, meter),
+        8 => write_blocks::<V, B>(w, 16, 8, meter),
+        16 => write_blocks::<V, B>(w, 8, 16, meter),
+        32 => write_blocks::<V, B>(w, 4, 32, meter),
+        64 => write_blocks::<V, B>(w, 2, 64, meter),
+        128 => write_blocks::<V, B>(w, 1, 128, meter),
+        _ => write_blocks::<V, B>(w, count, len, meter),
     }
 }
 
 /// The blocks of one layer.
 #[inline(always)]
-fn write_blocks<V: Residue>(w: &mut [V; 256], count: usize, len: usize, meter: &mut V::Meter) {
+fn write_blocks<V: Residue, B: Butterfly>(
+    w: &mut [V; 256],
+    count: usize,
+    len: usize,
+    meter: &mut V::Meter,
+) {
     let mut start = 0;
     for b in 0..count {
-        write_block(w, start, len, count + b, meter);
+        write_block::<V, B>(w, start, len, B::power(count, b), meter);
         start += 2 * len;
     }
 }
 
 /// The butterflies of one block, in place.
 #[inline(always)]
-fn write_block<V: Residue>(
+fn write_block<V: Residue, B: Butterfly>(
     w: &mut [V; 256],
     start: usize,
     len: usize,
@@ -100,20 +157,10 @@ fn write_block<V: Residue>(
     meter: &mut V::Meter,
 ) {
     for k in 0..len {
-        let (x, y) = butterfly(w[start + k], w[start + k + len], m, meter);
+        let (x, y) = B::apply(w[start + k], w[start + k + len], m, meter);
         w[start + k] = x;
         w[start + k + len] = y;
     }
-}
-
-/// One butterfly: `a + zeta b` and `a - zeta b`.
-#[inline(always)]
-fn butterfly<V: Residue>(a: V, b: V, m: usize, meter: &mut V::Meter) -> (V, V) {
-    // t = zeta w_hat[j + len], w_hat[j + len] = w_hat[j] - t, w_hat[j] = w_hat[j] + t
-    let t = b.mul_zeta(m, meter);
-    let x = a.add(t, meter);
-    let y = a.sub(t, meter);
-    (x, y)
 }
 
 /// The inverse transform of one row, in place: eight layers backwards, and the last factor. The sums
@@ -123,7 +170,7 @@ pub(crate) fn write_inv_ntt<V: Residue>(w: &mut [V; 256], meter: &mut V::Meter) 
     let mut count = 128;
     let mut len = 1;
     for s in 0..8usize {
-        write_inv_layer(w, count, len, meter);
+        write_layer::<V, Backwards>(w, count, len, meter);
         count /= 2;
         len *= 2;
     }
@@ -131,51 +178,4 @@ pub(crate) fn write_inv_ntt<V: Residue>(w: &mut [V; 256], meter: &mut V::Meter) 
     for i in 0..256 {
         w[i] = w[i].finish();
     }
-}
-
-/// One layer backwards: `count` blocks of `2 * len` values. Compiled with constants where blocks are short and many.
-#[inline(always)]
-fn write_inv_layer<V: Residue>(w: &mut [V; 256], count: usize, len: usize, meter: &mut V::Meter) {
-    match len {
-        1 => write_inv_blocks(w, count, 1, meter),
-        2 => write_inv_blocks(w, count, 2, meter),
-        4 => write_inv_blocks(w, count, 4, meter),
-        _ => write_inv_blocks(w, count, len, meter),
-    }
-}
-
-/// The blocks of one layer backwards.
-#[inline(always)]
-fn write_inv_blocks<V: Residue>(w: &mut [V; 256], count: usize, len: usize, meter: &mut V::Meter) {
-    let mut start = 0;
-    for b in 0..count {
-        write_inv_block(w, start, len, 2 * count - 1 - b, meter);
-        start += 2 * len;
-    }
-}
-
-/// The butterflies of one block backwards, in place.
-#[inline(always)]
-fn write_inv_block<V: Residue>(
-    w: &mut [V; 256],
-    start: usize,
-    len: usize,
-    m: usize,
-    meter: &mut V::Meter,
-) {
-    for k in 0..len {
-        let (x, y) = inv_butterfly(w[start + k], w[start + k + len], m, meter);
-        w[start + k] = x;
-        w[start + k + len] = y;
-    }
-}
-
-/// One butterfly backwards: `a + b` and `-zeta (a - b)`.
-#[inline(always)]
-fn inv_butterfly<V: Residue>(a: V, b: V, m: usize, meter: &mut V::Meter) -> (V, V) {
-    // t = w[j], w[j] = t + w[j + len], w[j + len] = -zeta (t - w[j + len])
-    let x = a.add(b, meter);
-    let t = a.sub(b, meter);
-    let y = t.mul_neg_zeta(m, meter);
-    (x, y)
 }

@@ -1,6 +1,6 @@
 // Made by tools/erase of crates/fips204_base/src/product.rt. Change that, not this.
-//! What is multiplied: vectors as their transforms, side by side in eight lanes, and polynomials that vectors are
-//! multiplied by. Internal: serves the crate `fips204` alone.
+//! Vectors in the NTT domain, a polynomial a lane, and the factors that multiply them. Internal: serves the crate `fips204`
+//! alone.
 
 mod matrix;
 
@@ -9,7 +9,7 @@ use crate::proved::fips204_base::helpers::vector::value_to_mont;
 use crate::proved::fips204_base::lanes::Lanes;
 use crate::proved::fips204_base::ntt::{write_lanes_inv_ntt, write_lanes_ntt, write_ntt};
 use crate::proved::fips204_base::types::R;
-pub use matrix::{write_matrix_product, write_sampled_product};
+pub use matrix::{Values, write_matrix_product, write_sampled_product};
 
 /// A vector of at most eight polynomials, as their transforms: lane `r` of value `n` is value `n` of the transform of
 /// polynomial `r`, and zero where there is no polynomial `r`.
@@ -27,30 +27,36 @@ impl Transforms {
         }
     }
 
-    /// Becomes `v` (Algorithm 41). Coefficients are below `q` in absolute value.
-    ///
-    /// Not inlined, so that its calls can be counted.
-    #[inline(never)]
-    pub fn write_transforms<const N: usize>(&mut self, v: &[R; N]) {
-        for n in 0..256usize {
-            self.values[n] = lanes_of(v, n);
+    crate::avx2::with_avx2! {
+        write_transforms_for_any write_transforms_for_avx2 write_transforms_for_others
+        /// Becomes `v` (Algorithm 41). Coefficients are below `q` in absolute value.
+        ///
+        /// Not inlined, so that its calls can be counted.
+        #[inline(never)]
+        pub fn write_transforms<const N: usize>(&mut self, v: &[R; N]) {
+            for n in 0..256usize {
+                self.values[n] = lanes_of(v, n);
+            }
+            write_lanes_ntt(&mut self.values);
         }
-        write_lanes_ntt(&mut self.values);
     }
 
-    /// Becomes `v`, as by `write_transforms`, and returns `c` as what vectors are multiplied by. Both take one run of the
-    /// network, with `c` in the last lane. Coefficients are below `q` in absolute value.
-    #[inline(never)]
-    pub fn write_transforms_and_factor<const N: usize>(&mut self, v: &[R; N], c: &R) -> Factor {
-        for n in 0..256usize {
-            self.values[n] = lanes_of(v, n).with_lane(7, c.0[n]);
+    crate::avx2::with_avx2! {
+        write_transforms_and_factor_for_any write_transforms_and_factor_for_avx2 write_transforms_and_factor_for_others
+        /// Becomes `v`, as by `write_transforms`, and returns `c` as what vectors are multiplied by. Both take one run of the
+        /// network, with `c` in the last lane. Coefficients are below `q` in absolute value.
+        #[inline(never)]
+        pub fn write_transforms_and_factor<const N: usize>(&mut self, v: &[R; N], c: &R) -> Factor {
+            for n in 0..256usize {
+                self.values[n] = lanes_of(v, n).with_lane(7, c.0[n]);
+            }
+            write_lanes_ntt(&mut self.values);
+            let mut values = [0; 256];
+            for i in 0..256usize {
+                values[i] = value_to_mont(self.values[i].to_array()[7]);
+            }
+            Factor { values }
         }
-        write_lanes_ntt(&mut self.values);
-        let mut values = [0; 256];
-        for i in 0..256usize {
-            values[i] = value_to_mont(self.values[i].to_array()[7]);
-        }
-        Factor { values }
     }
 
     /// Writes the polynomials (Algorithm 42), with coefficients from 0 to `q - 1`, and is used up by it.
@@ -60,10 +66,13 @@ impl Transforms {
         write_lanes(&self.values, out);
     }
 
-    /// Takes `c v` away.
-    pub fn subtract_multiple(&mut self, c: &Factor, v: &Transforms) {
-        for n in 0..256usize {
-            self.values[n] = self.values[n].minus(v.values[n].times(c.values[n]));
+    crate::avx2::with_avx2! {
+        subtract_multiple_for_any subtract_multiple_for_avx2 subtract_multiple_for_others
+        /// Takes `c v` away.
+        pub fn subtract_multiple(&mut self, c: &Factor, v: &Transforms) {
+            for n in 0..256usize {
+                self.values[n] = self.values[n].minus(v.values[n].times(c.values[n]));
+            }
         }
     }
 }
@@ -76,15 +85,17 @@ pub struct Factor {
 }
 
 impl Factor {
-    /// `c`, whose coefficients are below `q` in absolute value.
-    #[inline(never)]
-    pub fn of(c: &R) -> Factor {
-        let mut values = c.0;
-        write_ntt(&mut values, &mut Count::new());
-        for n in 0..256usize {
-            values[n] = value_to_mont(values[n]);
+    crate::avx2::with_avx2! {
+        /// `c`, whose coefficients are below `q` in absolute value.
+        #[inline(never)]
+        pub fn of(c: &R) -> Factor {
+            let mut values = c.0;
+            write_ntt(&mut values, &mut Count::new());
+            for n in 0..256usize {
+                values[n] = value_to_mont(values[n]);
+            }
+            Factor { values }
         }
-        Factor { values }
     }
 }
 
@@ -144,20 +155,24 @@ impl<'a> Products<'a> {
     }
 }
 
-/// Writes `c v` (Algorithms 45 and 42 at each polynomial): lane `r` of value `n` is coefficient `n` of polynomial `r`.
-fn write_multiple(c: &Factor, v: &Transforms, out: &mut [Lanes; 256]) {
-    for n in 0..256usize {
-        out[n] = v.values[n].times(c.values[n]);
+crate::avx2::with_avx2! {
+    /// Writes `c v` (Algorithms 45 and 42 at each polynomial): lane `r` of value `n` is coefficient `n` of polynomial `r`.
+    fn write_multiple(c: &Factor, v: &Transforms, out: &mut [Lanes; 256]) {
+        for n in 0..256usize {
+            out[n] = v.values[n].times(c.values[n]);
+        }
+        write_lanes_inv_ntt(out);
     }
-    write_lanes_inv_ntt(out);
 }
 
-/// Writes `c v`, and from lane 4 on `c u`, in the first four polynomials of both.
-fn write_multiples(c: &Factor, v: &Transforms, u: &Transforms, out: &mut [Lanes; 256]) {
-    for n in 0..256usize {
-        out[n] = v.values[n].beside(u.values[n]).times(c.values[n]);
+crate::avx2::with_avx2! {
+    /// Writes `c v`, and from lane 4 on `c u`, in the first four polynomials of both.
+    fn write_multiples(c: &Factor, v: &Transforms, u: &Transforms, out: &mut [Lanes; 256]) {
+        for n in 0..256usize {
+            out[n] = v.values[n].concat_low(u.values[n]).times(c.values[n]);
+        }
+        write_lanes_inv_ntt(out);
     }
-    write_lanes_inv_ntt(out);
 }
 
 /// Writes the polynomials whose coefficients are in the lanes.
@@ -172,7 +187,7 @@ fn write_lanes<const N: usize>(lanes: &[Lanes; 256], out: &mut [R; N]) {
 #[inline(always)]
 fn write_last_lanes<const N: usize>(lanes: &[Lanes; 256], out: &mut [R; N]) {
     for n in 0..256usize {
-        write_coefficients(lanes[n].halves_exchanged(), n, out);
+        write_coefficients(lanes[n].swap_halves(), n, out);
     }
 }
 

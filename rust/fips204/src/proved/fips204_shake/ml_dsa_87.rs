@@ -1,4 +1,5 @@
 // Made by tools/erase of crates/fips204_shake/src/ml_dsa_87.rt. Change that, not this.
+// `tools/sets` made this file from that of 44: edit that one.
 //! ML-DSA-87 over SHAKE256 and SHAKE128.
 
 use crate::proved::fips204::ml_dsa_87;

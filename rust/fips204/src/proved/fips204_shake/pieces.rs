@@ -3,7 +3,7 @@
 
 use crate::proved::fips204::Fault;
 use crate::proved::fips204::xof::hash;
-use crate::proved::fips204_bytes::{Array, Refusal, SetName};
+use crate::proved::fips204_shake::bytes::{Buffer, Refusal, SetName};
 use crate::proved::fips204_shake::streams::Shake256Stream;
 use crate::proved::shake::Shake256;
 
@@ -42,7 +42,7 @@ impl MessageHasher {
         context: &[u8],
     ) -> Result<MessageHasher, Refusal> {
         if public_key.len() != set.public_key_len() {
-            return Err(Refusal::Length(Array::PublicKey));
+            return Err(Refusal::Length(Buffer::PublicKey));
         }
         let tr = hash::<Shake256Stream, 64>(&[public_key]);
         Ok(MessageHasher::new(&tr, context)?)
@@ -57,7 +57,7 @@ impl MessageHasher {
         context: &[u8],
     ) -> Result<MessageHasher, Refusal> {
         if private_key.len() != set.private_key_len() {
-            return Err(Refusal::Length(Array::PrivateKey));
+            return Err(Refusal::Length(Buffer::PrivateKey));
         }
         let mut tr = [0; 64];
         tr.copy_from_slice(&private_key[64..128]);

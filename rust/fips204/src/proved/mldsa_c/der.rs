@@ -1,11 +1,11 @@
 // Made by tools/erase of crates/mldsa_c/src/der.rt. Change that, not this.
 //! Keys in DER (RFC 9881): what the exports of each set do.
 
-use crate::proved::fips204_bytes::array_of;
-use crate::proved::fips204_der::{
+use crate::proved::fips204_shake::bytes::array_of;
+use crate::proved::fips204_shake::der::{
     DerFault, PrivateKey, read_private, read_public, write_private, write_public,
 };
-use crate::proved::fips204_shake::{Fault, MlDsa, Refusal, SetName};
+use crate::proved::fips204_shake::{AnySet, Fault, Refusal, SetName};
 use crate::proved::mldsa_c::statuses::{DONE, WRONG_LENGTH, status_of_refusal};
 
 /// The key is one of another parameter set.
@@ -38,7 +38,7 @@ fn status_of_der(fault: DerFault) -> u32 {
 fn generate(set: SetName, seed: &[u8; 32], private_key: &mut [u8]) -> Result<(), u32> {
     let mut public_key = [0; PUBLIC_KEY];
     let public_key = &mut public_key[..set.public_key_len()];
-    match MlDsa::keygen(set, seed, public_key, private_key) {
+    match AnySet::keygen(set, seed, public_key, private_key) {
         Ok(()) => Ok(()),
         Err(refusal) => Err(status_of_refusal(refusal)),
     }
@@ -46,7 +46,7 @@ fn generate(set: SetName, seed: &[u8; 32], private_key: &mut [u8]) -> Result<(),
 
 /// Does nothing if a private key is one of a pair; an error is a status.
 fn check_pair(set: SetName, private_key: &[u8]) -> Result<(), u32> {
-    match MlDsa::is_pair(set, private_key) {
+    match AnySet::is_pair(set, private_key) {
         Ok(true) => Ok(()),
         Ok(false) | Err(Refusal::Library(Fault::KeyRange)) => Err(INCONSISTENT),
         Err(refusal) => Err(status_of_refusal(refusal)),

@@ -1,4 +1,5 @@
 // Made by tools/erase of crates/mldsa_c/src/der_87.rt. Change that, not this.
+// `tools/sets` made this file from that of 44: edit that one.
 //! The exports of ML-DSA-87 for keys in DER.
 
 use crate::proved::fips204_shake::SetName;

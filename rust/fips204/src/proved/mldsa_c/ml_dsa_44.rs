@@ -3,11 +3,13 @@
 
 use crate::proved::fips204_shake::{Input, MlDsa44, SetName};
 use crate::proved::mldsa_c::pieces;
-use crate::proved::mldsa_c::statuses::{WRONG_LENGTH, accepted, array_of, status, verdict_status};
+use crate::proved::mldsa_c::statuses::{
+    WRONG_LENGTH, accepted, checked_array, status, verdict_status,
+};
 
 /// Makes the key pair of a seed of 32 bytes.
 pub fn mldsa44_keygen(seed: &[u8], public_key: &mut [u8], private_key: &mut [u8]) -> u32 {
-    let seed = array_of!(seed, 32);
+    let seed = checked_array!(seed, 32);
     status(MlDsa44::keygen(seed, public_key, private_key))
 }
 
@@ -19,7 +21,7 @@ pub fn mldsa44_sign(
     random: &[u8],
     signature: &mut [u8],
 ) -> u32 {
-    let random = array_of!(random, 32);
+    let random = checked_array!(random, 32);
     let input = Input::Message(message, context);
     status(MlDsa44::sign(private_key, random, &input, signature))
 }
@@ -44,7 +46,7 @@ pub fn mldsa44_hash_sign(
     random: &[u8],
     signature: &mut [u8],
 ) -> u32 {
-    let random = array_of!(random, 32);
+    let random = checked_array!(random, 32);
     let input = Input::Digest(digest, context, oid);
     status(MlDsa44::sign(private_key, random, &input, signature))
 }
@@ -63,8 +65,8 @@ pub fn mldsa44_hash_verify(
 
 /// Signs the hash `mu` of a framed message, which has 64 bytes, from 32 random bytes.
 pub fn mldsa44_sign_mu(private_key: &[u8], mu: &[u8], random: &[u8], signature: &mut [u8]) -> u32 {
-    let mu = array_of!(mu, 64);
-    let random = array_of!(random, 32);
+    let mu = checked_array!(mu, 64);
+    let random = checked_array!(random, 32);
     status(MlDsa44::sign(
         private_key,
         random,
@@ -75,7 +77,7 @@ pub fn mldsa44_sign_mu(private_key: &[u8], mu: &[u8], random: &[u8], signature: 
 
 /// Tells whether a public key accepts the signature of the hash `mu` of a framed message.
 pub fn mldsa44_verify_mu(public_key: &[u8], mu: &[u8], signature: &[u8]) -> u32 {
-    let signed = array_of!(mu, 64);
+    let signed = checked_array!(mu, 64);
     verdict_status(MlDsa44::verify(public_key, &Input::Mu(signed), signature))
 }
 

@@ -1,13 +1,16 @@
 // Made by tools/erase of crates/mldsa_c/src/ml_dsa_87.rt. Change that, not this.
+// `tools/sets` made this file from that of 44: edit that one.
 //! The exports of ML-DSA-87.
 
 use crate::proved::fips204_shake::{Input, MlDsa87, SetName};
 use crate::proved::mldsa_c::pieces;
-use crate::proved::mldsa_c::statuses::{WRONG_LENGTH, accepted, array_of, status, verdict_status};
+use crate::proved::mldsa_c::statuses::{
+    WRONG_LENGTH, accepted, checked_array, status, verdict_status,
+};
 
 /// Makes the key pair of a seed of 32 bytes.
 pub fn mldsa87_keygen(seed: &[u8], public_key: &mut [u8], private_key: &mut [u8]) -> u32 {
-    let seed = array_of!(seed, 32);
+    let seed = checked_array!(seed, 32);
     status(MlDsa87::keygen(seed, public_key, private_key))
 }
 
@@ -19,7 +22,7 @@ pub fn mldsa87_sign(
     random: &[u8],
     signature: &mut [u8],
 ) -> u32 {
-    let random = array_of!(random, 32);
+    let random = checked_array!(random, 32);
     let input = Input::Message(message, context);
     status(MlDsa87::sign(private_key, random, &input, signature))
 }
@@ -44,7 +47,7 @@ pub fn mldsa87_hash_sign(
     random: &[u8],
     signature: &mut [u8],
 ) -> u32 {
-    let random = array_of!(random, 32);
+    let random = checked_array!(random, 32);
     let input = Input::Digest(digest, context, oid);
     status(MlDsa87::sign(private_key, random, &input, signature))
 }
@@ -63,8 +66,8 @@ pub fn mldsa87_hash_verify(
 
 /// Signs the hash `mu` of a framed message, which has 64 bytes, from 32 random bytes.
 pub fn mldsa87_sign_mu(private_key: &[u8], mu: &[u8], random: &[u8], signature: &mut [u8]) -> u32 {
-    let mu = array_of!(mu, 64);
-    let random = array_of!(random, 32);
+    let mu = checked_array!(mu, 64);
+    let random = checked_array!(random, 32);
     status(MlDsa87::sign(
         private_key,
         random,
@@ -75,7 +78,7 @@ pub fn mldsa87_sign_mu(private_key: &[u8], mu: &[u8], random: &[u8], signature: 
 
 /// Tells whether a public key accepts the signature of the hash `mu` of a framed message.
 pub fn mldsa87_verify_mu(public_key: &[u8], mu: &[u8], signature: &[u8]) -> u32 {
-    let signed = array_of!(mu, 64);
+    let signed = checked_array!(mu, 64);
     verdict_status(MlDsa87::verify(public_key, &Input::Mu(signed), signature))
 }
 

@@ -1,8 +1,9 @@
 // Made by tools/erase of crates/mldsa_c/src/prepared_87.rt. Change that, not this.
+// `tools/sets` made this file from that of 44: edit that one.
 //! The exports of ML-DSA-87 with prepared keys.
 
 use crate::proved::fips204_shake::{Input, MlDsa87};
-use crate::proved::mldsa_c::statuses::{WRONG_LENGTH, array_of, status, verdict_status};
+use crate::proved::mldsa_c::statuses::{WRONG_LENGTH, checked_array, status, verdict_status};
 
 /// Prepares a public key for many verifications.
 pub fn mldsa87_prepare_public_key(public_key: &[u8], prepared_public_key: &mut [u8]) -> u32 {
@@ -42,7 +43,7 @@ pub fn mldsa87_hash_verify_prepared(
 
 /// Tells whether a prepared public key accepts the signature of the hash `mu` of a framed message.
 pub fn mldsa87_verify_mu_prepared(prepared_public_key: &[u8], mu: &[u8], signature: &[u8]) -> u32 {
-    let signed = array_of!(mu, 64);
+    let signed = checked_array!(mu, 64);
     verdict_status(MlDsa87::verify_prepared(
         prepared_public_key,
         &Input::Mu(signed),
@@ -66,7 +67,7 @@ pub fn mldsa87_sign_prepared(
     random: &[u8],
     signature: &mut [u8],
 ) -> u32 {
-    let random = array_of!(random, 32);
+    let random = checked_array!(random, 32);
     let input = Input::Message(message, context);
     status(MlDsa87::sign_prepared(
         prepared_private_key,
@@ -85,7 +86,7 @@ pub fn mldsa87_hash_sign_prepared(
     random: &[u8],
     signature: &mut [u8],
 ) -> u32 {
-    let random = array_of!(random, 32);
+    let random = checked_array!(random, 32);
     let input = Input::Digest(digest, context, oid);
     status(MlDsa87::sign_prepared(
         prepared_private_key,
@@ -102,8 +103,8 @@ pub fn mldsa87_sign_mu_prepared(
     random: &[u8],
     signature: &mut [u8],
 ) -> u32 {
-    let mu = array_of!(mu, 64);
-    let random = array_of!(random, 32);
+    let mu = checked_array!(mu, 64);
+    let random = checked_array!(random, 32);
     status(MlDsa87::sign_prepared(
         prepared_private_key,
         random,

@@ -1,7 +1,7 @@
 // Made by tools/erase of crates/mldsa_c/src/statuses.rt. Change that, not this.
 //! The numbers that the exports return.
 
-use crate::proved::fips204_bytes::{Fault, Refusal};
+use crate::proved::fips204_shake::bytes::{Fault, Refusal};
 
 /// Done; of a question: yes.
 pub(crate) const DONE: u32 = 0;
@@ -19,7 +19,7 @@ pub(crate) const BROKEN_STATE: u32 = 16;
 const NOT_PREPARED: u32 = 17;
 
 /// A slice as an array of this length; the function around it returns `WRONG_LENGTH` for a slice of another.
-macro_rules! array_of {
+macro_rules! checked_array {
     ($slice:ident, $length:literal) => {
         match <&[_; $length]>::try_from(&*$slice).ok() {
             Some(array) => array,
@@ -28,7 +28,7 @@ macro_rules! array_of {
     };
 }
 
-pub(crate) use array_of;
+pub(crate) use checked_array;
 
 /// The status of a fault.
 pub(crate) fn status_of(fault: Fault) -> u32 {

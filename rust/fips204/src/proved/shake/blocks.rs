@@ -25,6 +25,7 @@ fn block_lane(block: &[u8], index: usize) -> u64 {
 }
 
 /// Adds a block to the state.
+#[inline(always)]
 pub(crate) fn add_block(state: &mut [u64; 25], block: &[u8]) {
     for index in 0..block.len() / 8 {
         state[index] ^= block_lane(block, index);
@@ -32,6 +33,7 @@ pub(crate) fn add_block(state: &mut [u64; 25], block: &[u8]) {
 }
 
 /// Writes the first bytes of the state.
+#[inline(always)]
 pub(crate) fn write_block(state: &[u64; 25], block: &mut [u8]) {
     for index in 0..block.len() / 8 {
         let at = 8 * index;

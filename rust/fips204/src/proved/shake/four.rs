@@ -60,27 +60,28 @@ fn two_rounds(states: &mut [[u64; 4]; 25], first: u64, second: u64) {
     }
 }
 
-crate::avx2::with_avx2! {
-    /// The permutation Keccak-f[1600] of each state. The rounds are a loop: 24 of them one after the other are more instructions
-    /// than the processor keeps at hand, and take longer.
-    fn f1600x4(states: &mut [[u64; 4]; 25]) {
-        for pair in 0..12 {
-            two_rounds(
-                states,
-                ROUND_CONSTANTS[2 * pair],
-                ROUND_CONSTANTS[2 * pair + 1],
-            );
-        }
+/// The permutation Keccak-f[1600] of each state. The rounds are a loop: 24 of them one after the other are more instructions
+/// than the processor keeps at hand, and take longer.
+#[inline(always)]
+fn f1600x4(states: &mut [[u64; 4]; 25]) {
+    for pair in 0..12 {
+        two_rounds(
+            states,
+            ROUND_CONSTANTS[2 * pair],
+            ROUND_CONSTANTS[2 * pair + 1],
+        );
     }
 }
 
-/// The permutation Keccak-f[1600] of each of four states.
-pub fn f1600_four(a: &mut [u64; 25], b: &mut [u64; 25], c: &mut [u64; 25], d: &mut [u64; 25]) {
-    let mut states = [[0; 4]; 25];
-    write_beside(a, b, c, d, &mut states);
-    f1600x4(&mut states);
-    *a = state_at(&states, 0);
-    *b = state_at(&states, 1);
-    *c = state_at(&states, 2);
-    *d = state_at(&states, 3);
+crate::avx2::with_avx2! {
+    /// The permutation Keccak-f[1600] of each of four states.
+    pub fn f1600_four(a: &mut [u64; 25], b: &mut [u64; 25], c: &mut [u64; 25], d: &mut [u64; 25]) {
+        let mut states = [[0; 4]; 25];
+        write_beside(a, b, c, d, &mut states);
+        f1600x4(&mut states);
+        *a = state_at(&states, 0);
+        *b = state_at(&states, 1);
+        *c = state_at(&states, 2);
+        *d = state_at(&states, 3);
+    }
 }

@@ -114,13 +114,15 @@ pub(crate) fn round(a: &[u64; 25], constant: u64) -> [u64; 25] {
     ]
 }
 
-/// The permutation Keccak-f[1600] of the 25 lanes of a state, lane (x, y) at place `x + 5 * y`.
-pub fn f1600(state: &mut [u64; 25]) {
-    let mut a = *state;
-    // two rounds a turn, so that the state between them need not be stored
-    for pair in 0..12 {
-        let b = round(&a, ROUND_CONSTANTS[2 * pair]);
-        a = round(&b, ROUND_CONSTANTS[2 * pair + 1]);
+crate::avx2::with_avx2! {
+    /// The permutation Keccak-f[1600] of the 25 lanes of a state, lane (x, y) at place `x + 5 * y`.
+    pub fn f1600(state: &mut [u64; 25]) {
+        let mut a = *state;
+        // two rounds a turn, so that the state between them need not be stored
+        for pair in 0..12 {
+            let b = round(&a, ROUND_CONSTANTS[2 * pair]);
+            a = round(&b, ROUND_CONSTANTS[2 * pair + 1]);
+        }
+        *state = a;
     }
-    *state = a;
 }

@@ -10,7 +10,7 @@ use crate::proved::mlsign_engine::message::message_mu;
 use crate::proved::mlsign_engine::prepared::{SigningKey, VerifyingKey};
 use crate::proved::mlsign_engine::source::Source;
 use fips204::SetName;
-use fips204_der::PrivateKey;
+use fips204_shake::der::PrivateKey;
 use rattle_std::alloc::Global;
 
 /// The most bytes of a context.

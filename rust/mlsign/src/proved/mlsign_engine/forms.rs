@@ -3,14 +3,14 @@
 
 use crate::standing::*;
 
-use crate::proved::mlsign_engine::fault::CommandFault;
+use crate::proved::mlsign_engine::fault::{CommandFault, FileFault};
 use crate::proved::mlsign_engine::keys::{AnyKey, KeyPair, PublicKey};
-use fips204_der::{
+use crate::proved::mlsign_engine::lax::strict_form;
+use crate::proved::mlsign_engine::pem::{self, Kind};
+use fips204_shake::der::{
     DerFault, PrivateKey, SEED_LENGTH, SetName, read_private, read_public, write_private,
     write_public,
 };
-use mlsign_files::pem::{self, Kind};
-use mlsign_files::{FileFault, strict_form};
 use rattle_std::alloc::{AllocError, Global};
 
 /// How a file has a key.

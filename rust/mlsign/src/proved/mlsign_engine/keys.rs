@@ -5,10 +5,10 @@ use crate::standing::*;
 
 use crate::proved::mlsign_engine::fault::CommandFault;
 use fips204::xof::hash;
-use fips204_bytes::array_of;
-use fips204_der::PrivateKey;
+use fips204_shake::bytes::array_of;
+use fips204_shake::der::PrivateKey;
 use fips204_shake::streams::Shake256Stream;
-use fips204_shake::{MlDsa, SetName};
+use fips204_shake::{AnySet, SetName};
 use rattle_std::alloc::Global;
 
 /// A public key.
@@ -148,7 +148,7 @@ fn generated(alloc: Global, set: SetName, seed: &[u8]) -> Result<(Vec<u8>, Vec<u
     let mut private = try_vec![alloc; 0; set.private_key_len()]?;
     let first = public.as_mut_slice();
     let second = private.as_mut_slice();
-    MlDsa::keygen(set, &seed, first, second)?;
+    AnySet::keygen(set, &seed, first, second)?;
     Ok((public, private))
 }
 
@@ -157,16 +157,16 @@ fn derived(alloc: Global, set: SetName, expanded: &[u8]) -> Result<Vec<u8>, Comm
     check_expanded(set, expanded)?;
     let mut public = try_vec![alloc; 0; set.public_key_len()]?;
     let bytes = public.as_mut_slice();
-    MlDsa::public_key(set, expanded, bytes).unwrap();
+    AnySet::public_key(set, expanded, bytes).unwrap();
     Ok(public)
 }
 
 /// Does nothing if an expanded key is consistent.
 fn check_expanded(set: SetName, expanded: &[u8]) -> Result<(), CommandFault> {
-    if MlDsa::check_private_key(set, expanded).is_err() {
+    if AnySet::check_private_key(set, expanded).is_err() {
         return Err(CommandFault::Inconsistent);
     }
-    if !MlDsa::is_pair(set, expanded)? {
+    if !AnySet::is_pair(set, expanded)? {
         return Err(CommandFault::Inconsistent);
     }
     Ok(())

@@ -5,7 +5,7 @@ use crate::standing::*;
 
 use crate::proved::mlsign_engine::fault::CommandFault;
 use crate::proved::mlsign_engine::keys::{KeyPair, PublicKey};
-use fips204_shake::{Input, MlDsa, Refusal, SetName};
+use fips204_shake::{AnySet, Input, Refusal, SetName};
 use rattle_std::alloc::Global;
 
 /// A private key with its matrix, which signs.
@@ -22,7 +22,7 @@ impl SigningKey {
         let set = pair.algorithm();
         let mut prepared = try_vec![alloc; 0; set.prepared_private_key_len()]?;
         let room = prepared.as_mut_slice();
-        MlDsa::prepare_private_key(set, pair.private(), room).unwrap();
+        AnySet::prepare_private_key(set, pair.private(), room).unwrap();
         Ok(SigningKey { pair, prepared })
     }
 
@@ -45,7 +45,7 @@ impl SigningKey {
     ) -> Result<(), Refusal> {
         let set = self.pair.algorithm();
         let prepared = self.prepared.as_slice();
-        MlDsa::sign_prepared(set, prepared, random, &Input::Mu(mu), signature)
+        AnySet::sign_prepared(set, prepared, random, &Input::Mu(mu), signature)
     }
 }
 
@@ -71,7 +71,7 @@ impl VerifyingKey {
         let set = key.algorithm();
         let mut prepared = try_vec![alloc; 0; set.prepared_public_key_len()]?;
         let room = prepared.as_mut_slice();
-        MlDsa::prepare_public_key(set, key.bytes(), room)?;
+        AnySet::prepare_public_key(set, key.bytes(), room)?;
         Ok(VerifyingKey {
             tr: key.hash(),
             key,
@@ -93,6 +93,6 @@ impl VerifyingKey {
     pub(crate) fn judge_mu(&self, mu: &[u8; 64], signature: &[u8]) -> Result<bool, Refusal> {
         let set = self.key.algorithm();
         let prepared = self.prepared.as_slice();
-        MlDsa::verify_prepared(set, prepared, &Input::Mu(mu), signature)
+        AnySet::verify_prepared(set, prepared, &Input::Mu(mu), signature)
     }
 }

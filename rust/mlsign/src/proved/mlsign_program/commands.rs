@@ -13,10 +13,10 @@ use base64::engine::general_purpose::STANDARD_NO_PAD;
 use clap::ArgMatches;
 use either::Either;
 use fips204::SetName;
+use mlsign_engine::pem::Kind;
 use mlsign_engine::{
     AnyKey, CommandFault, Form, KeyFiles, KeyPair, Parts, PublicKey, Reader, SigningKey, Source,
 };
-use mlsign_files::pem::Kind;
 use rattle_std::alloc::Global;
 use rattle_std::fs::{File, OpenFile};
 use rattle_std::io::{self, IsTerminal, Stdin};

@@ -4,7 +4,7 @@
 use crate::standing::*;
 
 use mlsign_engine::Form;
-use mlsign_files::pem::Kind;
+use mlsign_engine::pem::Kind;
 
 /// What a file seems to be that has no key of this kind in this form, or of either, and what to do about it.
 pub(crate) fn hint(file: &[u8], form: Form, wanted: Option<Kind>) -> Option<&'static str> {

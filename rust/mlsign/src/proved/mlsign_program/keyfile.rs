@@ -7,10 +7,11 @@ use crate::proved::mlsign_program::files::read_key;
 use crate::proved::mlsign_program::hints::hint;
 use anyhow::{Context, Error, bail};
 use clap::ArgMatches;
-use fips204_der::{SEED_LENGTH, SetName};
-use mlsign_engine::{AnyKey, CommandFault, Form, KeyPair, PublicKey, SigningKey, VerifyingKey};
-use mlsign_files::from_beginning;
-use mlsign_files::pem::Kind;
+use fips204_shake::der::{SEED_LENGTH, SetName};
+use mlsign_engine::pem::Kind;
+use mlsign_engine::{
+    AnyKey, CommandFault, Form, KeyPair, PublicKey, SigningKey, VerifyingKey, from_beginning,
+};
 use rattle_std::alloc::Global;
 
 /// The word of a call that has this name.

@@ -6,7 +6,7 @@ use crate::standing::*;
 use crate::proved::mlsign_program::commands::open;
 use crate::proved::mlsign_program::text::{about, printable};
 use crate::proved::mlsign_program::verify::{
-    Ends, VerifyingKey, accepts_list, read_signature, say_invalid, say_valid, tell_keys,
+    Ends, TrustedKey, accepts_list, read_signature, say_invalid, say_valid, tell_keys,
 };
 use anyhow::{Context, Error};
 use clap::ArgMatches;
@@ -34,7 +34,7 @@ struct Sum<'a> {
 pub(crate) fn verify_sums(
     rt: &HostRuntime,
     words: &ArgMatches<'_>,
-    keys: &mut [VerifyingKey<'_>],
+    keys: &mut [TrustedKey<'_>],
     path: &str,
 ) -> Result<bool, Error> {
     let signature = read_signature(rt, words, path)?;

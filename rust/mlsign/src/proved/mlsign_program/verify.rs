@@ -15,23 +15,23 @@ use anyhow::{Context, Error, bail};
 use base64::engine::general_purpose::STANDARD_NO_PAD;
 use clap::ArgMatches;
 use fips204::SetName;
-use mlsign_engine::{CommandFault, Reader, Source};
-use mlsign_files::pem::Kind;
+use mlsign_engine::pem::Kind;
+use mlsign_engine::{CommandFault, Reader, Source, VerifyingKey};
 use rattle_std::alloc::Global;
 use rattle_std::io;
 
-/// A public key of a call.
-pub(crate) struct VerifyingKey<'a> {
+/// A public key that a call trusts.
+pub(crate) struct TrustedKey<'a> {
     path: &'a str,
     file: KeyFile<'a>,
-    key: mlsign_engine::VerifyingKey,
+    key: VerifyingKey,
     set: SetName,
     fingerprint: String,
     /// Whether it accepted a signature.
     accepted: bool,
 }
 
-impl VerifyingKey<'_> {
+impl TrustedKey<'_> {
     /// Notes that it accepted a signature.
     pub(crate) fn accept(&mut self) {
         self.accepted = true;
@@ -117,7 +117,7 @@ fn keys_of<'a>(
     rt: &HostRuntime,
     words: &ArgMatches<'a>,
     messages: &[&str],
-) -> Result<Vec<VerifyingKey<'a>>, Error> {
+) -> Result<Vec<TrustedKey<'a>>, Error> {
     let wanted = fingerprint(words)?;
     let paths = words.get_strs("public").context("a word is missing")?;
     let mut keys = Vec::new(rt.alloc());
@@ -158,14 +158,14 @@ fn key_of<'a>(
     rt: &HostRuntime,
     words: &ArgMatches<'_>,
     path: &'a str,
-) -> Result<VerifyingKey<'a>, Error>
+) -> Result<TrustedKey<'a>, Error>
 // What verifies is the key of the file's bytes.
 {
     let file = KeyFile::read(rt, words, path, Some(Kind::Public))?;
     let key = file.verifying_key(rt.alloc())?;
     let set = key.key().algorithm();
     let fingerprint = file.name(fingerprint_of(rt.alloc(), key.key()))?;
-    Ok(VerifyingKey {
+    Ok(TrustedKey {
         path,
         file,
         key,
@@ -195,7 +195,7 @@ fn check_key_apart(
 pub(crate) fn tell_keys(
     rt: &HostRuntime,
     words: &ArgMatches<'_>,
-    keys: &[VerifyingKey<'_>],
+    keys: &[TrustedKey<'_>],
 ) -> Result<(), Error> {
     if words.get_flag("quiet") {
         return Ok(());
@@ -215,7 +215,7 @@ pub(crate) fn tell_keys(
 fn verify_message(
     rt: &HostRuntime,
     words: &ArgMatches<'_>,
-    keys: &mut [VerifyingKey<'_>],
+    keys: &mut [TrustedKey<'_>],
     message: &str,
 ) -> Result<bool, Error> {
     let signature = read_signature(rt, words, message)?;
@@ -253,7 +253,7 @@ pub(crate) fn read_signature(
 /// Whether a key accepts these bytes as the signature of the message with this name, which is read.
 fn accepts(
     words: &ArgMatches<'_>,
-    key: &VerifyingKey<'_>,
+    key: &TrustedKey<'_>,
     signature: &[u8],
     input: &mut Reader<Message<'_>>,
     message: &str,
@@ -267,7 +267,7 @@ fn accepts(
 /// Whether a key accepts these bytes as the signature of a list that was read.
 pub(crate) fn accepts_list(
     words: &ArgMatches<'_>,
-    key: &VerifyingKey<'_>,
+    key: &TrustedKey<'_>,
     signature: &[u8],
     list: &[u8],
 ) -> Result<bool, Error> {
@@ -279,7 +279,7 @@ pub(crate) fn accepts_list(
 /// Judges the signature of what is read, under the context that the words say.
 fn verify_input<I: Source>(
     words: &ArgMatches<'_>,
-    key: &mlsign_engine::VerifyingKey,
+    key: &VerifyingKey,
     signature: &[u8],
     input: &mut I,
 ) -> Result<bool, CommandFault> {
@@ -299,7 +299,7 @@ fn named(alloc: Global, shown: bool, front: &str, name: &str, end: &str) -> Resu
 pub(crate) fn say_valid(
     rt: &HostRuntime,
     words: &ArgMatches<'_>,
-    key: &VerifyingKey<'_>,
+    key: &TrustedKey<'_>,
     message: &str,
     shown: bool,
 ) -> Result<(), Error> {
@@ -315,7 +315,7 @@ pub(crate) fn say_valid(
 /// Says that no key accepts a signature of so many bytes, and what can be known of why.
 pub(crate) fn say_invalid(
     rt: &HostRuntime,
-    keys: &[VerifyingKey<'_>],
+    keys: &[TrustedKey<'_>],
     message: &str,
     shown: bool,
     size: usize,

@@ -2,8 +2,7 @@ use Rattle.std.proofs.Common.{arith, refl, length-take, length-drop}
 use Rattle.std.proofs.lemmas.Grind.{common_steps}
 use Rattle.std.proofs.lemmas.Int.{ints, to_z-of_z}
 use Rattle.std.proofs.lemmas.List.{take_all}
-use Rattle.fips204_base.proofs.VectorBytes.{length-put_mid, put_piece}
-use Rattle.fips204.proofs.MatrixBytes.{piece_more}
+use Rattle.fips204.proofs.MatrixBytes.{length-put_mid, piece_more, put_piece}
 use Rattle.fips204.proofs.ml_dsa.matrix_bytes.write_entry.Goals as goal
 
 pub loop-n-init : goal.loop-n-init

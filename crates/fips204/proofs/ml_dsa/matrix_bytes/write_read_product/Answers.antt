@@ -1,8 +1,9 @@
-use Rattle.std.proofs.Common.{arith, refl, rules, ◌≡◌, ◌≢◌, ◌∙◌, ◌<◌, ◌+◌, ◌-◌, ◌*◌, [], None, length, set, replicate}
+use Rattle.std.proofs.Common.{arith, refl, rules, ◌≡◌, ◌≢◌, ◌∙◌, ◌<◌, ◌+◌, ◌-◌, ◌*◌, [], None, get_or, length, set, replicate}
 use Rattle.std.proofs.lemmas.List.{length-replicate, get_or-set_same, get_or-set_other}
 use native.Mathlib.Decide.{dec_lt}
-use Rattle.fips204_base.specs.PlainTransforms.{row_product}
-use Rattle.fips204_base.specs.Vectors.{matrix_product}
+use Rattle.fips204_base.specs.PlainTransforms.{plain_row, row_product}
+use Rattle.fips204_base.specs.Vectors.{matrix_product, vector_coefficients}
+use Rattle.fips204_base.proofs.PlainTransforms.{row-same}
 use Rattle.fips204.specs.PreparedBytes.{IsRow, row_bytes}
 use Rattle.fips204.proofs.MatrixBytes.{length-row, reads_more, reads_all, unread, row_within}
 use Rattle.fips204.proofs.ml_dsa.matrix_bytes.write_read_product.Goals as goal
@@ -28,7 +29,7 @@ write_row_product-requires g c =
     let one = 1024 * g.row.L in
     let size : one * c.loop-r.r + one - one * c.loop-r.r ≡ one = omega arith in
     let read = rw size at c.in_ok-read_row.ensures in
-    (omega (arith, c.requires.few.1), ((omega (arith, c.loop-r-test.true, c.requires.few.0), c.requires.few.1), row_within g.row.L c.read_row.new.row read.0))
+    (omega (arith, c.requires.few.1), (search (arith, c.requires.few.1, rules), ((omega (arith, c.loop-r-test.true, c.requires.few.0), c.requires.few.1), (row_within g.row.L c.read_row.new.row read.0))))
 
 pub loop-r-preserved : goal.loop-r-preserved
 loop-r-preserved g c =
@@ -56,5 +57,10 @@ unfolding matrix_product row_product
 returns g c =
     let end : c.loop-r.r ≡ g.row.K = omega (arith, c.loop-r-test.false, c.loop-r.auto.r-end) in
     let kept = c.loop-r.invariant in
-    let all = reads_all (IsRow g.row.L) row_bytes g.row.K (1024 * g.row.L) c.loop-r.r c.args.bytes.now kept.0 kept.1 end c.requires.size in
-    (kept.0, all.0, all.1, λ r n h m. kept.2 r n (omega (arith, h, end)) m)
+    let all = reads_all (IsRow g.row.L) row_bytes g.row.K (1024 * g.row.L) c.loop-r.r c.args.bytes.now kept.0 kept.1 end c.requires.size in (
+      kept.0,
+      all.0,
+      all.1,
+      λ r n h m. kept.2 r n (omega (arith, h, end)) m
+          ∙ row-same g.row.L (plain_row (get_or kept.0 r [])) (plain_row c.write_values.new.out) (vector_coefficients c.args.v.now) n c.write_values.ensures m,
+    )

@@ -8,4 +8,4 @@ use Rattle.fips204.proofs.ml_dsa.matrix_bytes.write_read_product.Given as goal
 
 abbrev pub invariant-loop-r : goal.invariant-loop-r
 invariant-loop-r g l = (a : List (List T)) × Reads (IsRow g.row.L) row_bytes g.row.K l.size l.r l.bytes a
-    × ((i n : ℕ) → i < l.r → n < 256 → vector_coefficients l.out i n ≡ row_product g.row.L (plain_row (get_or a i [])) (vector_coefficients l.v) n)
+    × ((i n : ℕ) → i < l.r → n < 256 → vector_coefficients l.v i n ≡ row_product g.row.L (plain_row (get_or a i [])) (plain_row l.values) n)

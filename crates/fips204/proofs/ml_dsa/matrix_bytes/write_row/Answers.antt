@@ -1,8 +1,7 @@
 use Rattle.std.proofs.Common.{arith, length-take, length-drop}
 use Rattle.std.proofs.lemmas.Grind.{common_steps}
 use Rattle.std.proofs.lemmas.List.{take_all}
-use Rattle.fips204_base.proofs.VectorBytes.{length-put_mid, put_piece, piece-within}
-use Rattle.fips204.proofs.MatrixBytes.{piece_more}
+use Rattle.fips204.proofs.MatrixBytes.{length-put_mid, piece-within, piece_more, put_piece}
 use Rattle.fips204.proofs.ml_dsa.matrix_bytes.write_row.Goals as goal
 
 pub loop-s-init : goal.loop-s-init

@@ -17,12 +17,13 @@ returns-in_default g c =
 pub returns : goal.returns
 returns g c =
     let there = c.in_ok-write_read_product.ensures in
-    let z = c.open_signature.new.z in (
+    let z = c.open_signature.new.z in
+    let judged = c.is_committed_by.ensures in (
       there.0,
       there.1,
       there.2,
-      commitment-decides c.args.p.now g.H.Xof.front there.0 c.args.t1.now c.args.mu.now c.args.sig.now c.in-Some.parts.0.now z c.open_signature.new.h c.in-Some.parts.1 c.write_read_product.new.out c.write_shifted_transforms.new.out g.row.K g.row.L c.is_committed.result
+      commitment-decides c.args.p.now g.H.Xof.front there.0 c.args.t1.now c.args.mu.now c.args.sig.now c.in-Some.parts.0.now z c.open_signature.new.h c.in-Some.parts.1 c.write_read_product.new.v judged.0 g.row.K g.row.L c.is_committed_by.result
           (search rules) c.requires.sizes.rows c.requires.sizes.columns c.in-Some.ensures.parts
           (λ r n h l. there.3 r n h l ∙ matrix-same g.row.L there.0 c.write_transforms_and_factor-c_hat.new.self z r n c.write_transforms_and_factor-c_hat.ensures.vector l)
-          c.write_shifted_transforms.ensures (c.is_committed.ensures c.in-Some.parts.1 c.write_transforms_and_factor-c_hat.ensures.factor),
+          judged.1 (judged.2 c.in-Some.parts.1 c.write_transforms_and_factor-c_hat.ensures.factor),
     )

@@ -21,8 +21,9 @@ returns-in-Ok g c =
     let there = sampled.1 in
     let matrix : sampled_matrix g.G.Xof.front c.args.pk.now.rho p.k p.l ≡ Some sampled.0 = rw (rho, c.requires.sizes.rows, c.requires.sizes.columns) at there in
     let z = c.open_signature.new.z in
-    let decided = commitment-decides p g.H.Xof.front sampled.0 c.pk.inside.t1 c.args.mu.now c.args.sig.now c.in-Some.parts.0.now z c.open_signature.new.h c.in-Some.parts.1 c.write_sampled_product.new.out c.write_shifted_transforms.new.out g.row.K g.row.L c.is_committed.result
+    let judged = c.is_committed_by.ensures in
+    let decided = commitment-decides p g.H.Xof.front sampled.0 c.pk.inside.t1 c.args.mu.now c.args.sig.now c.in-Some.parts.0.now z c.open_signature.new.h c.in-Some.parts.1 c.write_sampled_product.new.v judged.0 g.row.K g.row.L c.is_committed_by.result
     (search rules) c.requires.sizes.rows c.requires.sizes.columns c.in-Some.ensures.parts
     (λ r n h l. sampled.2 r n h l ∙ matrix-same g.row.L sampled.0 c.write_transforms_and_factor-c_hat.new.self z r n c.write_transforms_and_factor-c_hat.ensures.vector l)
-    c.write_shifted_transforms.ensures (c.is_committed.ensures c.in-Some.parts.1 c.write_transforms_and_factor-c_hat.ensures.factor) in
-    verifies-with (set_of p) g.H.Xof.front g.G.Xof.front c.args.pk.now c.args.mu.now c.args.sig.now sampled.0 c.is_committed.result matrix (rw t1 at decided)
+    judged.1 (judged.2 c.in-Some.parts.1 c.write_transforms_and_factor-c_hat.ensures.factor) in
+    verifies-with (set_of p) g.H.Xof.front g.G.Xof.front c.args.pk.now c.args.mu.now c.args.sig.now sampled.0 c.is_committed_by.result matrix (rw t1 at decided)

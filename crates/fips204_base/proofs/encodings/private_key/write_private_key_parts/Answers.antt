@@ -1,4 +1,4 @@
-use Rattle.fips204_base.proofs.Names.{ints, to_z-of_z, length-take-le, width, KeyRange, width_4095_4096, eta_width, three_seeds, private_key-of_parts, private_key-first, private_key-second, same_bounds}
+use Rattle.fips204_base.proofs.Names.{ints, to_z-of_z, width, KeyRange, width_4095_4096, eta_width, private_key_cut, private_key_joined, same_bounds}
 use Rattle.std.proofs.Common.{◌≡◌, ◌*◌, ◌++◌, ◌∙◌, Some, None, Err, ap, refl, sym, arith, rules, nat_abs, length, take, drop, w32, length-drop}
 use Rattle.fips204_base.proofs.encodings.private_key.write_private_key_parts.Goals as goal
 
@@ -26,7 +26,7 @@ returns-in_err-ok_or g c =
     let refused : c.from_residual.result ≡ Err KeyRange = search rules in
     let given = rw (none, E) at c.write_unpacked_short_vector.ensures in
     let first = c.split_at-2.ensures.front ∙ ap (take (c.polynomial_size-size.result * g.row.L)) c.split_at.ensures.back in
-    rw refused (refl, λ key s. given key.s1 (s.parts.s1, private_key-first _ _ _ _ _ _ s (ap (λ w. w * g.row.L) natural) ∙ sym first))
+    rw refused (refl, λ key s. given key.s1 (s.parts.s1, sym (private_key_cut _ _ _ _ _ s).s1 ∙ sym (rw natural at first)))
 
 pub returns-in_err-ok_or-2 : goal.returns-in_err-ok_or-2
 returns-in_err-ok_or-2 g c =
@@ -37,7 +37,7 @@ returns-in_err-ok_or-2 g c =
     let refused : c.from_residual-in_err-ok_or-2.result ≡ Err KeyRange = search rules in
     let given = rw (none, E) at c.write_unpacked_short_vector-2.ensures in
     let second = c.split_at-3.ensures.front ∙ ap (take (c.polynomial_size-size.result * g.row.K)) (c.split_at-2.ensures.back ∙ ap (drop (c.polynomial_size-size.result * g.row.L)) c.split_at.ensures.back) in
-    rw refused (refl, λ key s. given key.s2 (s.parts.s2, private_key-second _ _ _ _ _ _ _ s (ap (λ w. w * g.row.L) natural) (ap (λ w. w * g.row.K) natural) ∙ sym second))
+    rw refused (refl, λ key s. given key.s2 (s.parts.s2, sym (private_key_cut _ _ _ _ _ s).s2 ∙ sym (rw natural at second)))
 
 pub returns : goal.returns
 returns g c =
@@ -49,11 +49,7 @@ returns g c =
     let rho : c.part.result.now ≡ take 32 (drop 0 seeds) = c.part.ensures in
     let key : c.part-2.result.now ≡ take 32 (drop 32 seeds) = c.part-2.ensures in
     let tr : c.part-3.result.now ≡ take 64 (drop 64 seeds) = c.part-3.ensures in
-    let long : length seeds ≡ 128 = c.split_at.ensures.front_len in
-    let front : c.part.result.now ++ c.part-2.result.now ++ c.part-3.result.now ≡ seeds = rw (rho, key, tr) (three_seeds seeds long) in
     let tail = c.split_at-2.ensures.by_index.0 ∙ ap (λ l. first ++ l) c.split_at-3.ensures.by_index.0 in
-    let cut : c.args.sk.now ≡ (c.part.result.now ++ c.part-2.result.now ++ c.part-3.result.now) ++ (first ++ (second ++ low)) =
-    c.split_at.ensures.by_index.0 ∙ ap (λ l. seeds ++ l) tail ∙ ap (λ l. l ++ (first ++ (second ++ low))) (sym front) in
     let n = ap nat_abs E in
     let first_there : c.write_unpacked_short_vector.result ≡ Some tt = search rules in
     let second_there : c.write_unpacked_short_vector-2.result ≡ Some tt = search rules in
@@ -61,9 +57,6 @@ returns g c =
     let s2 = rw second_there at c.write_unpacked_short_vector-2.ensures in
     let one = same_bounds g.row.L _ _ (nat_abs c.args.eta) (nat_abs c.args.eta) c.write_unpacked_short_vector.new.v first n n s1.0 s1.1 in
     let two = same_bounds g.row.K _ _ (nat_abs c.args.eta) (nat_abs c.args.eta) c.write_unpacked_short_vector-2.new.v second n n s2.0 s2.1 in
-    private_key-of_parts (nat_abs c.args.eta) g.row.K g.row.L c.args.sk.now c.part.result.now c.part-2.result.now c.part-3.result.now first second low
-    c.write_unpacked_short_vector.new.v c.write_unpacked_short_vector-2.new.v c.write_unpacked_vector.new.v cut
-    (ap length rho ∙ length-take-le 32 (drop 0 seeds) (omega (arith, long)))
-    (ap length key ∙ length-take-le 32 (drop 32 seeds) (simp length-drop (omega (arith, long))))
-    (ap length tr ∙ length-take-le 64 (drop 64 seeds) (simp length-drop (omega (arith, long))))
-    one.0 two.0 c.write_unpacked_vector.ensures.vector one.1 two.1 c.write_unpacked_vector.ensures.same_bytes
+    rw (rho, key, tr) (private_key_joined (nat_abs c.args.eta) g.row.K g.row.L c.args.sk.now seeds first second low
+    c.write_unpacked_short_vector.new.v c.write_unpacked_short_vector-2.new.v c.write_unpacked_vector.new.v (c.split_at.ensures.by_index.0 ∙ ap (λ l. seeds ++ l) tail) c.split_at.ensures.front_len
+    one.0 two.0 c.write_unpacked_vector.ensures.vector one.1 two.1 c.write_unpacked_vector.ensures.same_bytes)

@@ -1,5 +1,5 @@
-use Rattle.std.proofs.Common.{◌*◌, ◌∙◌, ap, sym, arith, length, w32, rules}
-use Rattle.fips204_base.proofs.Names.{common_steps, to_z-of_z, piece-within, read_more, read_all}
+use Rattle.std.proofs.Common.{◌*◌, ◌∙◌, ap, sym, arith, length, w32, to_z, of_z, rules}
+use Rattle.fips204_base.proofs.Names.{IsPolynomial, common_steps, packed, piece-sliced, piece-within, read_all, reads_more, to_z-of_z}
 use Rattle.fips204_base.proofs.encodings.vectors.write_unpacked_vector.Goals as goal
 
 pub overflow_add-at : goal.overflow_add-at
@@ -15,7 +15,11 @@ slice_bounds-write_unpacked_polynomial-end g c =
 pub loop-i-preserved : goal.loop-i-preserved
 loop-i-preserved g c =
     let w = c.write_unpacked_polynomial.ensures in
-    read_more c.write_unpacked_polynomial.new.w c.loop-i.invariant c.loop-i-test.true w.same_bytes w.range w.places
+    let size = c.polynomial_size-size.result in
+    let A = to_z w32 (of_z w32 c.args.a) in
+    let B = to_z w32 (of_z w32 c.args.b) in
+    reads_more (IsPolynomial A B) (packed A B) g.row.N size c.loop-i.i c.args.bytes.now c.loop-i.v c.write_unpacked_polynomial.new.w c.loop-i.invariant c.loop-i-test.true
+    (w.same_bytes ∙ piece-sliced size (size * c.loop-i.i) c.args.bytes.now) (w.range, w.places)
 
 pub returns : goal.returns
 returns g c =

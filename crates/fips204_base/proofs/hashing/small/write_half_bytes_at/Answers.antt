@@ -16,10 +16,10 @@ loop-byte-preserved c =
     let before = take c.args.kept c.args.values.now in
     let low = option_to_list (coefficient_from_half_byte eta (byte % 16)) in
     let high = option_to_list (coefficient_from_half_byte eta (byte / 16)) in
-    let given1 = c.write_kept_without_branch-count.ensures.kept ∙ ap (λ o. take 256 (take c.loop-byte.count c.loop-byte.values ++ option_to_list o)) c.coeff_from_half_byte.ensures in
-    let kept1 = keeps_joined low c.loop-byte.invariant c.write_kept_without_branch-count.array_long c.write_kept_without_branch-count.ensures.count given1 in
-    let given2 = c.write_kept_without_branch-count-in-loop-byte.ensures.kept ∙ ap (λ o. take 256 (take c.write_kept_without_branch-count.result c.write_kept_without_branch-count.new.values ++ option_to_list o)) c.coeff_from_half_byte-in-loop-byte.ensures in
-    let kept2 = keeps_joined high kept1 c.write_kept_without_branch-count-in-loop-byte.array_long c.write_kept_without_branch-count-in-loop-byte.ensures.count given2 in
+    let given1 = c.push_branchless-count.ensures.kept ∙ ap (λ o. take 256 (take c.loop-byte.count c.loop-byte.values ++ option_to_list o)) c.coeff_from_half_byte.ensures in
+    let kept1 = keeps_joined low c.loop-byte.invariant c.push_branchless-count.array_long c.push_branchless-count.ensures.count given1 in
+    let given2 = c.push_branchless-count-in-loop-byte.ensures.kept ∙ ap (λ o. take 256 (take c.push_branchless-count.result c.push_branchless-count.new.values ++ option_to_list o)) c.coeff_from_half_byte-in-loop-byte.ensures in
+    let kept2 = keeps_joined high kept1 c.push_branchless-count-in-loop-byte.array_long c.push_branchless-count-in-loop-byte.ensures.count given2 in
     let more : before ++ kept_half_bytes eta piece (n + 1) ≡ ((before ++ kept_half_bytes eta piece n) ++ low) ++ high =
     ap (λ l. before ++ l) (kept_half_bytes-more eta piece n byte (omega (arith, c.loop-byte-test.true)) refl ∙ append_assoc (kept_half_bytes eta piece n) low high)
     ∙ sym (append_assoc before (kept_half_bytes eta piece n) (low ++ high)) ∙ sym (append_assoc (before ++ kept_half_bytes eta piece n) low high) in

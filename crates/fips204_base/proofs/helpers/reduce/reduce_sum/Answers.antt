@@ -1,8 +1,8 @@
 use Rattle.std.proofs.Common.{rules}
 use Rattle.fips204_base.proofs.helpers.reduce.reduce_sum.Goals as goal
 
-pub overflow_cast-folded : goal.overflow_cast-folded
-overflow_cast-folded c = search rules
+pub overflow_cast-folded_sum : goal.overflow_cast-folded_sum
+overflow_cast-folded_sum c = search rules
 
 pub partial_reduce32-requires : goal.partial_reduce32-requires
 partial_reduce32-requires c = search rules

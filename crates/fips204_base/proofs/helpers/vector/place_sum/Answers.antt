@@ -24,8 +24,9 @@ pub overflow_add-sum : goal.overflow_add-sum
 overflow_add-sum g c =
     let row = get_or c.args.row.now c.loop-k.k record { 0 = [] } in
     let hx = size_at 8380416 row.0 c.args.j (c.requires.row c.loop-k.k record { 0 = [] } (omega (arith, c.loop-k-test.true, c.told-row))) in
-    let hy = c.requires.numbers c.loop-k.k (omega (arith, c.loop-k-test.true, c.requires.columns)) in
-    (added (to_z w64 c.loop-k.sum-bits) (get_or row.0 c.args.j (pos 0)) (get_or c.args.u.now c.loop-k.k (pos 0)) c.wide_product-sum.result c.loop-k.k
+    let other = get_or c.args.u.now c.loop-k.k record { 0 = [] } in
+    let hy = size_at 8380416 other.0 c.args.j (c.requires.vector c.loop-k.k record { 0 = [] } (omega (arith, c.loop-k-test.true, c.told-u))) in
+    (added (to_z w64 c.loop-k.sum-bits) (get_or row.0 c.args.j (pos 0)) (get_or other.0 c.args.j (pos 0)) c.wide_product-sum.result c.loop-k.k
     c.loop-k.invariant.small (omega (arith, c.loop-k-test.true, c.requires.columns)) hx hy c.wide_product-sum.ensures).0
 
 pub loop-k-preserved : goal.loop-k-preserved
@@ -33,13 +34,15 @@ loop-k-preserved g c =
     let k = c.loop-k.k in
     let row = get_or c.args.row.now k record { 0 = [] } in
     let x = get_or row.0 c.args.j (pos 0) in
-    let y = get_or c.args.u.now k (pos 0) in
+    let other = get_or c.args.u.now k record { 0 = [] } in
+    let y = get_or other.0 c.args.j (pos 0) in
     let in_row = c.told-row in
+    let in_other = c.told-u in
     let hx = size_at 8380416 row.0 c.args.j (c.requires.row k record { 0 = [] } (omega (arith, c.loop-k-test.true, in_row))) in
-    let hy = c.requires.numbers k (omega (arith, c.loop-k-test.true, c.requires.columns)) in
+    let hy = size_at 8380416 other.0 c.args.j (c.requires.vector k record { 0 = [] } (omega (arith, c.loop-k-test.true, in_other))) in
     let s = to_z w64 c.loop-k.sum-bits in
     let next = (added s x y c.wide_product-sum.result k c.loop-k.invariant.small (omega (arith, c.loop-k-test.true, c.requires.columns)) hx hy c.wide_product-sum.ensures).1 in
     record {
-      value = ap residue next ∙ residue_sum_more s x y k (λ k. vector_residues c.args.row.now k c.args.j * residue (get_or c.args.u.now k (pos 0))) c.loop-k.invariant.value refl;
+      value = ap residue next ∙ residue_sum_more s x y k (λ k. vector_residues c.args.row.now k c.args.j * vector_residues c.args.u.now k c.args.j) c.loop-k.invariant.value refl;
       small = rw next (size_sum_more s x y k c.loop-k.invariant.small hx hy);
     }

@@ -1,12 +1,12 @@
 use Rattle.std.proofs.Common.{◌<◌, ◌≡◌, ℕ, pos, get_or, length, rules}
-use Rattle.fips204_base.proofs.Names.{w32, SFits, eight_read, eight_stored}
+use Rattle.fips204_base.proofs.Names.{w32, SFits, below_eight, eight_stored}
 use Rattle.fips204_base.proofs.lanes.Lanes.from_array.Goals as goal
 
 eight : (c : goal.After-h-1) → length c.args.entries ≡ 8
 eight c = search rules
 
 fits : (c : goal.After-h-1) → (j : ℕ) → j < 8 → SFits w32 (get_or c.args.entries j (pos 0))
-fits c = eight_read c.args.entries (eight c) (search rules) (search rules) (search rules) (search rules) (search rules) (search rules) (search rules) (search rules)
+fits c = below_eight (λ j. SFits w32 (get_or c.args.entries j (pos 0))) (search rules) (search rules) (search rules) (search rules) (search rules) (search rules) (search rules) (search rules)
 
 pub invariant_of-result : goal.invariant_of-result
 invariant_of-result c = rw (eight_stored c.args.entries (eight c) (fits c)) (record { eight = eight c; fits = fits c })

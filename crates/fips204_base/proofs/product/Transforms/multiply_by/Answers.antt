@@ -1,9 +1,22 @@
-use Rattle.std.proofs.Common.{arith, sym, [], get_or}
-use Rattle.fips204_base.proofs.Names.{row_product, matrix_product, plain-row}
+use Rattle.std.proofs.Common.{◌≡◌, ◌≢◌, ◌∙◌, arith, [], get_or}
+use native.Mathlib.Decide.{dec_lt}
+use Rattle.fips204_base.proofs.Names.{matrix_product, row_product, plain_row, row-same, vector_coefficients}
 use Rattle.fips204_base.proofs.product.Transforms.multiply_by.Goals as goal
+
+pub loop-r-preserved : goal.loop-r-preserved
+loop-r-preserved g c = record {
+  values = λ i n h l. elim (dec_lt i c.loop-r.r) [
+    | yes before ↦
+        let other : i ≢ c.loop-r.r = λ e. omega (arith, before, e) in
+        c.write_row_product.ensures.kept i n other (omega (arith, before, c.loop-r-test.true, c.requires.shape.0)) l ∙ c.loop-r.invariant.values i n before l
+    | no now ↦
+        let here : i ≡ c.loop-r.r = omega (arith, h, now) in
+        rw here (c.write_row_product.ensures.product n l)
+  ];
+}
 
 pub returns : goal.returns
 unfolding matrix_product row_product
-returns g c = rw (sym c.self.view_is) (λ r n h l.
-    plain-row g.row.L (get_or c.args.a.now r []) c.self.inside.values c.loop-n.self-inside.values r n (omega (arith, c.requires.shape.1)) (omega (arith, h, c.requires.shape.0)) l
-    (λ i p. c.loop-n.invariant.values r i [] h (omega (arith, p, c.loop-n-test.false))))
+returns g c = λ r n h l.
+    c.loop-r.invariant.values r n (omega (arith, h, c.loop-r-test.false)) l
+    ∙ row-same g.row.L (plain_row (get_or c.args.a.now r [])) (plain_row c.write_values.new.out) (vector_coefficients c.args.self.now) n c.write_values.ensures l

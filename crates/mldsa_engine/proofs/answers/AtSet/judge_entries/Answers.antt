@@ -1,5 +1,5 @@
 use Rattle.std.proofs.Common.{rules, arith, ℕ, List, [], ◌∷◌, length, Some, None, refl, ap, ◌∙◌}
-use Rattle.mldsa_lines.specs.Lines.{Stops}
+use Rattle.mldsa_engine.specs.Lines.{Stops}
 use Rattle.mldsa_engine.specs.ProgramText.{entry_lines}
 use Rattle.mldsa_engine.specs.InnerSteps.{AcceptsIfPrepared}
 use Rattle.mldsa_engine.proofs.Entries.{stops_entry}

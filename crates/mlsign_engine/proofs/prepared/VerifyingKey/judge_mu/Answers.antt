@@ -1,7 +1,7 @@
 use Rattle.std.proofs.Common.{subst}
 use Rattle.fips204.specs.Framing.{represented}
 use Rattle.fips204.specs.Sets.{named_set}
-use Rattle.fips204_bytes.specs.Bytes.{Judges}
+use Rattle.fips204_shake.specs.Bytes.{Judges}
 use Rattle.fips204_shake.specs.Fronts.{shake256_front, shake128_front}
 use Rattle.mlsign_engine.specs.Keys.{PublicValue}
 use Rattle.mlsign_engine.proofs.KeyPairs.{known_set}

@@ -1,19 +1,72 @@
 // Made by tools/erase of crates/fips204/src/keys/prepared.rt. Change that, not this.
-//! The calls of the prepared keys of every parameter set: those of the plain keys, which are the bodies of `Signer` and
-//! `Verifier`, and many messages in one call. Each returns what the plain key's call of the same name returns, in fewer steps: the matrix is sampled once,
-//! by `prepare`.
+//! Keys that are prepared once for many calls: a key with the matrix of its seed and the transforms of its vectors. Their calls
+//! are those of the plain keys, and many messages in one call; each returns what the plain key's call of the same name
+//! returns, in fewer steps.
 
+mod by_bytes;
+mod bytes;
+
+use super::random::{SignsInput, sign_drawn, sign_hedged, sign_seeded};
 use crate::proved::fips204::input::Input;
 use crate::proved::fips204::ml_dsa;
 use crate::proved::fips204::sets::{HasSet, Matrix, Set, SignatureSizes};
-use crate::proved::fips204::traits::{CryptoRngCore, Signer, Verifier};
-use crate::proved::fips204::types::{PreparedPrivateKey, PreparedPublicKey, R0};
+use crate::proved::fips204::traits::CryptoRngCore;
+use crate::proved::fips204::types::{PrivateKey, R, R0, T};
 use crate::proved::fips204_base::Fault;
 use crate::proved::fips204_base::product::Transforms;
 use crate::proved::fips204_base::xof::Xof;
 use core::marker::PhantomData;
 
-impl<S, const K: usize, const L: usize, const SIG_LEN: usize, H> Signer
+/// The transforms of a private key's vectors (FIPS 204, Algorithm 7, lines 2 to 4).
+pub struct KeyTransforms {
+    pub(crate) s1_hat: Transforms,
+    pub(crate) s2_hat: Transforms,
+    pub(crate) t0_hat: Transforms,
+}
+
+impl KeyTransforms {
+    /// The transforms of vectors of zeros.
+    pub(crate) fn zeros() -> KeyTransforms {
+        KeyTransforms {
+            s1_hat: Transforms::zeros(),
+            s2_hat: Transforms::zeros(),
+            t0_hat: Transforms::zeros(),
+        }
+    }
+}
+
+/// A private key of a parameter set with a matrix of `K` rows and `L` columns, over the XOF `H`, with its matrix and
+/// the transforms of its vectors.
+///
+/// Contracts see it as the private key's parts and the matrix, whose entries are the transforms of the plain matrix.
+pub struct PreparedPrivateKey<const K: usize, const L: usize, H> {
+    pub(crate) key: PrivateKey<K, L, H, ()>,
+    pub(crate) a_hat: [[T; L]; K],
+    pub(crate) transforms: KeyTransforms,
+}
+
+/// A public key of a parameter set with a matrix of `K` rows and `L` columns, over the XOF `H`, with its matrix and the
+/// transforms of `t1 2^d`.
+///
+/// Contracts see it as the public key's parts and the matrix, whose entries are the transforms of the plain matrix.
+pub struct PreparedPublicKey<const K: usize, const L: usize, H> {
+    // The plain key's parts, one by one: an entire key would first be put together in the stack beside this one.
+    pub(crate) rho: [u8; 32],
+    pub(crate) tr: [u8; 64],
+    pub(crate) t1: [R; K],
+    pub(crate) a_hat: [[T; L]; K],
+    pub(crate) t1_hat: Transforms,
+    pub(crate) stream: PhantomData<H>,
+}
+
+impl<const K: usize, const L: usize, H> PreparedPublicKey<K, L, H> {
+    /// The hash of the key's bytes, as `PublicKey::tr`. The key's parts and its matrix are in range.
+    pub fn tr(&self) -> &[u8; 64] {
+        &self.tr
+    }
+}
+
+impl<S, const K: usize, const L: usize, const SIG_LEN: usize, H> SignsInput
     for PreparedPrivateKey<K, L, H>
 where
     H: Xof,
@@ -22,45 +75,8 @@ where
 {
     type Signature = [u8; SIG_LEN];
 
-    type PublicKey = PreparedPublicKey<K, L, H>;
-
-    fn sign_input(&self, seed: &[u8; 32], input: &Input<'_>) -> Result<[u8; SIG_LEN], Fault> {
-        let mut signature = [0u8; SIG_LEN];
-        self.write_signature(seed, input, &mut signature)?;
-        Ok(signature)
-    }
-
-    /// The public key that belongs to the key, prepared too. Never returns an error.
-    fn get_public_key(&self) -> Result<PreparedPublicKey<K, L, H>, Fault> {
-        let plain = &self.key;
-        let mut pk = PreparedPublicKey {
-            rho: plain.rho,
-            tr: plain.tr,
-            t1: [R0; K],
-            a_hat: self.a_hat,
-            t1_hat: Transforms::zeros(),
-            stream: PhantomData,
-        };
-        ml_dsa::write_high_part(&S::params(), &self.a_hat, &plain.s1, &plain.s2, &mut pk.t1);
-        ml_dsa::write_shifted_transforms(&pk.t1, &mut pk.t1_hat);
-        Ok(pk)
-    }
-}
-
-impl<S, const K: usize, const L: usize, const SIG_LEN: usize, H> Verifier
-    for PreparedPublicKey<K, L, H>
-where
-    H: Xof,
-    Matrix<K, L>: HasSet<Set = S>,
-    S: Set<Signature = [u8; SIG_LEN]> + SignatureSizes<K, L, SIG_LEN>,
-{
-    type Signature = [u8; SIG_LEN];
-
-    fn accepts_input(&self, input: &Input<'_>, signature: &[u8; SIG_LEN]) -> bool {
-        match ml_dsa::mu_of::<H>(&self.tr, input) {
-            Ok(mu) => ml_dsa::verify_prepared::<K, L, H>(&S::params(), self, &mu, signature),
-            Err(_) => false,
-        }
+    fn sign_with(&self, random: &[u8; 32], input: &Input<'_>) -> Result<[u8; SIG_LEN], Fault> {
+        self.sign_input(random, input)
     }
 }
 
@@ -76,7 +92,32 @@ where
         &self.key.tr
     }
 
-    /// Writes what `sign_input` returns: `key.write_signature(&random, &input, &mut signature)?`.
+    /// The public key that belongs to the key, prepared too. Never returns an error.
+    pub fn get_public_key(&self) -> Result<PreparedPublicKey<K, L, H>, Fault> {
+        let plain = &self.key;
+        let mut pk = PreparedPublicKey {
+            rho: plain.rho,
+            tr: plain.tr,
+            t1: [R0; K],
+            a_hat: self.a_hat,
+            t1_hat: Transforms::zeros(),
+            stream: PhantomData,
+        };
+        ml_dsa::write_high_part(&S::params(), &self.a_hat, &plain.s1, &plain.s2, &mut pk.t1);
+        ml_dsa::write_shifted_transforms(&pk.t1, &mut pk.t1_hat);
+        Ok(pk)
+    }
+
+    /// Signs an input with the random bytes `seed`: `key.sign_input(&random, &Input::Message(b"message", b""))?`.
+    ///
+    /// Errors: those of `PrivateKey::sign_input`.
+    pub fn sign_input(&self, seed: &[u8; 32], input: &Input<'_>) -> Result<[u8; SIG_LEN], Fault> {
+        let mut signature = [0u8; SIG_LEN];
+        self.write_signature(seed, input, &mut signature)?;
+        Ok(signature)
+    }
+
+    /// Like `sign_input`, but signs into the caller's array: `key.write_signature(&random, &input, &mut signature)?`.
     ///
     /// Errors: those of `sign_input`; `signature` is then as it was.
     pub fn write_signature(
@@ -104,7 +145,7 @@ where
         message: &[u8],
         ctx: &[u8],
     ) -> Result<[u8; SIG_LEN], Fault> {
-        Signer::try_sign_with_rng(self, rng, message, ctx)
+        sign_drawn(self, rng, &Input::Message(message, ctx), Fault::SignRng)
     }
 
     /// Signs a message (Algorithm 2) with the random bytes `seed`:
@@ -117,7 +158,7 @@ where
         message: &[u8],
         ctx: &[u8],
     ) -> Result<[u8; SIG_LEN], Fault> {
-        Signer::try_sign_with_seed(self, seed, message, ctx)
+        sign_seeded(self, seed, &Input::Message(message, ctx))
     }
 
     /// Signs a digest (Algorithm 4) with 32 random bytes of the generator, which is asked once. `hash_oid` is the DER
@@ -133,7 +174,12 @@ where
         ctx: &[u8],
         hash_oid: &[u8],
     ) -> Result<[u8; SIG_LEN], Fault> {
-        Signer::try_hash_sign_with_rng(self, rng, hash, ctx, hash_oid)
+        sign_drawn(
+            self,
+            rng,
+            &Input::Digest(hash, ctx, hash_oid),
+            Fault::HashRng,
+        )
     }
 
     /// Signs a digest (Algorithm 4) with the random bytes `seed`:
@@ -148,7 +194,7 @@ where
         ctx: &[u8],
         hash_oid: &[u8],
     ) -> Result<[u8; SIG_LEN], Fault> {
-        Signer::try_hash_sign_with_seed(self, seed, hash, ctx, hash_oid)
+        sign_seeded(self, seed, &Input::Digest(hash, ctx, hash_oid))
     }
 
     /// Signs a framed message `m` (Algorithm 7). The 32 random bytes are zeros without `hedged`; with it they are
@@ -161,7 +207,7 @@ where
         m: &[u8],
         hedged: bool,
     ) -> Result<[u8; SIG_LEN], Fault> {
-        self.sign_input_with_rng(rng, &Input::Framed(m), hedged)
+        sign_hedged(self, rng, &Input::Framed(m), hedged)
     }
 
     /// Signs the hash `mu` of a framed message (Algorithm 7 from line 7 on): `key.sign_mu(&mut rng, &mu, true)?`.
@@ -172,7 +218,7 @@ where
         mu: &[u8; 64],
         hedged: bool,
     ) -> Result<[u8; SIG_LEN], Fault> {
-        self.sign_input_with_rng(rng, &Input::Mu(mu), hedged)
+        sign_hedged(self, rng, &Input::Mu(mu), hedged)
     }
 
     /// Signs each message with its own 32 random bytes, under one context: `out[i]` becomes the result of
@@ -197,10 +243,19 @@ where
     Matrix<K, L>: HasSet<Set = S>,
     S: Set<Signature = [u8; SIG_LEN]> + SignatureSizes<K, L, SIG_LEN>,
 {
+    /// Verifies the signature of an input: `key.accepts_input(&Input::Message(b"message", b""), &signature)`. Returns
+    /// false if the input is rejected.
+    pub fn accepts_input(&self, input: &Input<'_>, signature: &[u8; SIG_LEN]) -> bool {
+        match ml_dsa::mu_of::<H>(&self.tr, input) {
+            Ok(mu) => ml_dsa::verify_prepared::<K, L, H>(&S::params(), self, &mu, signature),
+            Err(_) => false,
+        }
+    }
+
     /// Verifies the signature of a message (Algorithm 3): `public.prepare()?.verify(b"message", &signature, b"context")`.
     /// Returns false if `ctx` has more than 255 bytes.
     pub fn verify(&self, message: &[u8], signature: &[u8; SIG_LEN], ctx: &[u8]) -> bool {
-        Verifier::verify(self, message, signature, ctx)
+        self.accepts_input(&Input::Message(message, ctx), signature)
     }
 
     /// Verifies the signature of a digest (Algorithm 5): `key.hash_verify(&digest, &signature, b"context", &SHA2_256)`.
@@ -212,7 +267,7 @@ where
         ctx: &[u8],
         hash_oid: &[u8],
     ) -> bool {
-        Verifier::hash_verify(self, hash, signature, ctx, hash_oid)
+        self.accepts_input(&Input::Digest(hash, ctx, hash_oid), signature)
     }
 
     /// Verifies the signature of a framed message `m` (Algorithm 8): `key.verify_internal(&framed, &signature)`.

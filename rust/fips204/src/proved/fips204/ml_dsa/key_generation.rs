@@ -162,18 +162,19 @@ fn write_key_vector<const K: usize, const L: usize, G: Xof>(
     s2: &[R; K],
     t: &mut [R; K],
 ) -> Result<(), Fault> {
-    let mut s1_hat = Transforms::zeros();
-    s1_hat.write_transforms(s1);
     let mut product = Transforms::zeros();
-    write_sampled_product::<K, L, G>(rho, &s1_hat, &mut product)?;
+    product.write_transforms(s1);
+    write_sampled_product::<K, L, G>(rho, &mut product)?;
     product.write_plain(t);
     write_sum(t, s2);
     Ok(())
 }
 
-/// Adds `v` to `t`, with results from 0 to `q - 1`. Coefficients of both are below `q` in absolute value.
-fn write_sum<const K: usize>(t: &mut [R; K], v: &[R; K]) {
-    write_zip_vectors(t, v, |x, y| full_reduce32(x + y));
+crate::avx2::with_avx2! {
+    /// Adds `v` to `t`, with results from 0 to `q - 1`. Coefficients of both are below `q` in absolute value.
+    fn write_sum<const K: usize>(t: &mut [R; K], v: &[R; K]) {
+        write_zip_vectors(t, v, |x, y| full_reduce32(x + y));
+    }
 }
 
 /// `ML-DSA.KeyGen` (Algorithm 1): a key pair from 32 bytes of the generator, which is asked once.

@@ -3,7 +3,7 @@
 
 use crate::proved::fips204::types::{T, T0};
 use crate::proved::fips204_base::Q;
-use crate::proved::fips204_base::product::Transforms;
+use crate::proved::fips204_base::product::{Transforms, Values};
 
 /// Writes a matrix, 1024 bytes for each entry.
 pub(crate) fn write_matrix<const K: usize, const L: usize>(a: &[[T; L]; K], out: &mut [u8]) {
@@ -43,19 +43,23 @@ pub(crate) fn read_matrix<const K: usize, const L: usize>(
     Some(())
 }
 
-/// Writes `A v` for the matrix that has these bytes, with one row of it at a time, or returns `None` where a value is
-/// `q` or more; `out` may then have been written in part.
+/// Writes `A v` over `v`, for the matrix that has these bytes, with one row of it at a time, or returns `None` where a value
+/// is `q` or more; `v` may then have been written in part.
+///
+/// Not inlined, so that the rows leave the stack before the product is used.
+#[inline(never)]
 pub(crate) fn write_read_product<const K: usize, const L: usize>(
     bytes: &[u8],
-    v: &Transforms,
-    out: &mut Transforms,
+    v: &mut Transforms,
 ) -> Option<()> {
     let mut row = [T0; L];
+    let mut values = Values::zeros();
+    v.write_values(&mut values);
     let size = 1024 * L;
     for r in 0..K {
         let at = size * r;
         read_row(&bytes[at..at + size], &mut row)?;
-        out.write_row_product(r, &row, v);
+        v.write_row_product(r, &row, &values);
     }
     Some(())
 }

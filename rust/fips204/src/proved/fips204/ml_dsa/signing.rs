@@ -1,17 +1,25 @@
 // Made by tools/erase of crates/fips204/src/ml_dsa/signing.rt. Change that, not this.
-//! Signing (FIPS 204, Algorithm 7, with the limit of attempts of Appendix C).
+//! Signing (FIPS 204, Algorithm 7, with the limit of attempts of Appendix C): the matrix and the transforms, the loop, and
+//! an attempt with its four checks.
 
+use super::commitment_hash::write_commitment_hash;
 use super::framing::mu_of;
 use crate::proved::fips204::input::Input;
-use crate::proved::fips204::types::{KeyTransforms, Params, PrivateKey, T, T0};
+use crate::proved::fips204::types::{KeyTransforms, Params, PrivateKey, R, R0, T, T0};
 use crate::proved::fips204_base::Fault;
-use crate::proved::fips204_base::hashing::write_expanded_a;
+use crate::proved::fips204_base::encodings::write_encoded_signature;
+use crate::proved::fips204_base::hashing::{expand_mask, sample_in_ball, write_expanded_a};
+use crate::proved::fips204_base::helpers::{center_mod, difference, infinity_norm};
+use crate::proved::fips204_base::high_low::{high_bits, low_bits, make_hint};
+use crate::proved::fips204_base::maps::write_zip_vectors;
+use crate::proved::fips204_base::product::{Factor, Products, write_matrix_product};
 use crate::proved::fips204_base::xof::{Xof, hash};
 
 /// How many attempts signing makes (FIPS 204, Appendix C).
 pub const MAX_SIGN_ATTEMPTS: u16 = 814;
 
-/// A private key with its matrix and the transforms of its vectors, from wherever each comes.
+/// What signing needs of a key: its parts, its matrix and the NTTs of its vectors, borrowed from a plain key, a prepared one,
+/// or bytes.
 pub(crate) struct SigningKey<'a, const K: usize, const L: usize, H, G> {
     pub(crate) key: &'a PrivateKey<K, L, H, G>,
     pub(crate) a_hat: &'a [[T; L]; K],
@@ -36,8 +44,8 @@ pub fn sign_internal<const K: usize, const L: usize, const SIG_LEN: usize, H: Xo
     Ok(signature)
 }
 
-/// Writes what `sign_internal` returns. After an error `signature` is as it was. That the key's parts are in range is
-/// told to the caller, whose array the key is in.
+/// Like `sign_internal`, but signs into the caller's array, which an error leaves as it was. Also ensures that the key's
+/// parts are in range.
 ///
 /// Not inlined, so that the matrix is in the stack only while the key signs.
 #[inline(never)]
@@ -111,5 +119,151 @@ impl<'a, const K: usize, const L: usize, H: Xof, G> SigningKey<'a, K, L, H, G> {
             }
         }
         Err(Fault::TooManyAttempts)
+    }
+
+    /// The attempt at counter `kappa` with the seed `rho''` of the mask (lines 11 to 32): writes its signature, and
+    /// returns false if it is rejected. `K`, `L` and `SIG_LEN` are those of the parameter set.
+    ///
+    /// Errors: `Fault::SamplingLimit` if its challenge reaches its limit. Nothing is written then, nor by one that is
+    /// rejected.
+    pub(crate) fn attempt<const SIG_LEN: usize>(
+        &self,
+        p: &Params,
+        mu: &[u8; 64],
+        mask_seed: &[u8; 64],
+        kappa: u16,
+        signature: &mut [u8; SIG_LEN],
+    ) -> Result<bool, Fault> {
+        // y = ExpandMask(rho'', kappa)
+        let y = expand_mask::<L, H>(p.gamma1, mask_seed, kappa);
+        // w = A y
+        let mut w = [R0; K];
+        write_matrix_product(self.a_hat, &y, &mut w);
+        // w1 = HighBits(w)
+        let mut w1 = [R0; K];
+        write_high_vector(p.gamma2, &w, &mut w1);
+        // c_tilde = H(mu || w1Encode(w1))
+        let mut room = [0u8; 64];
+        let c_tilde = &mut room[..p.c_tilde_len()];
+        write_commitment_hash::<K, H>(p, mu, &w1, c_tilde);
+        // c = SampleInBall(c_tilde)
+        let c = sample_in_ball::<H>(p.tau, c_tilde)?;
+        Ok(self.finish_attempt(p, &y, &mut w, &mut w1, c_tilde, &c, signature))
+    }
+}
+
+impl<'a, const K: usize, const L: usize, H, G> SigningKey<'a, K, L, H, G> {
+    /// Writes the signature of an attempt with mask `y`, `w = A y`, `c_tilde` and challenge. Returns false, and writes
+    /// nothing, where one of the checks rejects it.
+    ///
+    /// Coefficients of `y` are in `[1 - gamma1, gamma1]`, those of `w` and `c` below `q` in absolute value.
+    /// `K`, `L`, `SIG_LEN` and the length of `c_tilde` are those of the parameter set. Overwrites `w` and
+    /// `rows` to save stack. Not inlined, so that what it needs leaves the stack before the next attempt.
+    #[inline(never)]
+    pub(crate) fn finish_attempt<const SIG_LEN: usize>(
+        &self,
+        p: &Params,
+        y: &[R; L],
+        w: &mut [R; K],
+        rows: &mut [R; K],
+        c_tilde: &[u8],
+        c: &R,
+        signature: &mut [u8; SIG_LEN],
+    ) -> bool {
+        // c_hat = NTT(c)
+        let c_hat = Factor::of(c);
+        let key = self.transforms;
+        let mut products = Products::of(&c_hat, &key.s1_hat, &key.s2_hat);
+        // z = y + c s1, with a norm below gamma1 - beta
+        let mut z = [R0; L];
+        products.write_first(&mut z);
+        write_centred_sum(&mut z, y);
+        if !has_norm_below(&z, p.z_bound()) {
+            return false;
+        }
+        // r0 = LowBits(w - c s2), with a norm below gamma2 - beta
+        products.write_second(rows);
+        write_difference(w, rows);
+        write_low_vector(p.gamma2, w, rows);
+        if !has_norm_below(rows, p.r0_bound()) {
+            return false;
+        }
+        // c t0, with a norm below gamma2
+        products.write_other(&key.t0_hat, rows);
+        if !has_norm_below(rows, p.gamma2 as u32) {
+            return false;
+        }
+        // h = MakeHint(-c t0, w - c s2 + c t0), with at most omega ones
+        write_hint(p.gamma2, w, rows);
+        if number_of_ones(rows) > p.omega as usize {
+            return false;
+        }
+        // sigEncode(c_tilde, z, h)
+        write_encoded_signature(p.gamma1, p.omega, c_tilde, &z, rows, signature);
+        true
+    }
+}
+
+crate::avx2::with_avx2! {
+    /// Writes `HighBits` of each coefficient of `w`. `gamma2` is 95232 or 261888, and coefficients are below `q` in
+    /// absolute value.
+    fn write_high_vector<const K: usize>(gamma2: i32, w: &[R; K], out: &mut [R; K]) {
+        write_zip_vectors(out, w, |_, x| high_bits(gamma2, x));
+    }
+}
+
+/// Whether the norm of a vector of at least one polynomial is below an exclusive bound. Coefficients are
+/// below `q` in absolute value.
+pub(crate) fn has_norm_below<const N: usize>(v: &[R; N], bound: u32) -> bool {
+    (infinity_norm(v) as u32) < bound
+}
+
+crate::avx2::with_avx2! {
+    /// Adds `y` to `z`, centred. Coefficients of `y` are at most 524288, and those of `z` below `q`, in absolute value.
+    fn write_centred_sum<const L: usize>(z: &mut [R; L], y: &[R; L]) {
+        write_zip_vectors(z, y, |product, mask| center_mod(mask + product));
+    }
+}
+
+crate::avx2::with_avx2! {
+    /// Takes `v` from `w`, which stays below `q` in absolute value, as coefficients of both are.
+    fn write_difference<const K: usize>(w: &mut [R; K], v: &[R; K]) {
+        write_zip_vectors(w, v, |x, product| difference(x, product));
+    }
+}
+
+crate::avx2::with_avx2! {
+    /// Writes `LowBits` of each coefficient of `v`, which are below `q` in absolute value.
+    fn write_low_vector<const K: usize>(gamma2: i32, v: &[R; K], out: &mut [R; K]) {
+        write_zip_vectors(out, v, |_, x| low_bits(gamma2, x));
+    }
+}
+
+crate::avx2::with_avx2! {
+    /// Writes the hint of `v = w - c s2` and `t = c t0` over `t`: `MakeHint` of `-t` and `v + t` at each coefficient.
+    /// `gamma2` is 95232 or 261888, and coefficients are below `q` in absolute value.
+    fn write_hint<const K: usize>(gamma2: i32, v: &[R; K], t: &mut [R; K]) {
+        write_zip_vectors(
+            t,
+            v,
+            |t, x| {
+                if make_hint(gamma2, -t, x + t) { 1 } else { 0 }
+            },
+        );
+    }
+}
+
+crate::avx2::with_avx2! {
+    /// How many ones a hint has. `K` is at most 8.
+    fn number_of_ones<const K: usize>(h: &[R; K]) -> usize {
+        let mut total = 0usize;
+        for row in h {
+            for n in 0..256 {
+                if row.0[n] > 0 {
+                    total += 1;
+                }
+            }
+        }
+        total
     }
 }

@@ -65,12 +65,12 @@ pub fn sig_encode<
     h: &[R; K],
 ) -> [u8; SIG_LEN] {
     let mut sigma = [0u8; SIG_LEN];
-    write_signature(gamma1, omega, c_tilde, z, h, &mut sigma);
+    write_encoded_signature(gamma1, omega, c_tilde, z, h, &mut sigma);
     sigma
 }
 
 /// `sig_encode` into the caller's bytes, of a `c_tilde` of any size. Internal: serves the crate `fips204` alone.
-pub fn write_signature<const K: usize, const L: usize>(
+pub fn write_encoded_signature<const K: usize, const L: usize>(
     gamma1: i32,
     omega: i32,
     c_tilde: &[u8],

@@ -33,6 +33,7 @@ fn write_four_numbers(bytes: &[u8], first: usize, values: &mut [i32; 256]) {
 }
 
 /// Writes the numbers of 256 triples, without the top bit of each.
+#[inline(always)]
 fn write_numbers(triples: &[u8], values: &mut [i32; 256]) {
     for n in 0..63 {
         write_four_numbers(&triples[12 * n..12 * n + 16], 4 * n, values);
@@ -43,6 +44,7 @@ fn write_numbers(triples: &[u8], values: &mut [i32; 256]) {
 }
 
 /// Whether all are below `q`.
+#[inline(always)]
 fn are_below_q(values: &[i32; 256]) -> bool {
     let mut most = 0;
     for p in 0..256 {
@@ -51,22 +53,24 @@ fn are_below_q(values: &[i32; 256]) -> bool {
     most < Q
 }
 
-/// Puts the coefficients that 256 triples give into `values`, and returns how many there are. Mostly each triple gives one: so
-/// their numbers are written side by side first, and only where one is too large are the others moved to the start.
-fn write_first_triples(triples: &[u8], values: &mut [i32; 256]) -> usize {
-    write_numbers(triples, values);
-    if are_below_q(values) {
-        return 256;
-    }
-    let mut count = 0;
-    for p in 0..256usize {
-        let number = values[p];
-        if number < Q {
-            values[count] = number;
-            count += 1;
+crate::avx2::with_avx2! {
+    /// Puts the coefficients that 256 triples give into `values`, and returns how many there are. Nearly all triples are
+    /// accepted, so it decodes 256 at once, and compacts only if one is too large.
+    fn write_first_triples(triples: &[u8], values: &mut [i32; 256]) -> usize {
+        write_numbers(triples, values);
+        if are_below_q(values) {
+            return 256;
         }
+        let mut count = 0;
+        for p in 0..256usize {
+            let number = values[p];
+            if number < Q {
+                values[count] = number;
+                count += 1;
+            }
+        }
+        count
     }
-    count
 }
 
 /// The draws of a matrix entry: triples of bytes.

@@ -4,18 +4,20 @@
 use crate::proved::fips204_base::conversion::coeff_from_half_byte;
 use crate::proved::fips204_base::fault::Fault;
 use crate::proved::fips204_base::hashing::sampler::{Draws, Sampler};
-use crate::proved::fips204_base::hashing::{open_numbered, write_kept_without_branch};
+use crate::proved::fips204_base::hashing::{open_numbered, push_branchless};
 use crate::proved::fips204_base::types::{R, R0};
 use crate::proved::fips204_base::xof::{Xof, XofReader};
 
-/// Puts the coefficients that the half bytes of `piece` give into `values` from place `kept` on, as many as
-/// have room, and returns how many there are then.
-fn write_kept_half_bytes(eta: i32, piece: &[u8], values: &mut [i32; 256], kept: usize) -> usize {
-    // compiled for each eta, so that no half byte asks which it is
-    if eta == 2 {
-        write_half_bytes_at(2, piece, values, kept)
-    } else {
-        write_half_bytes_at(4, piece, values, kept)
+crate::avx2::with_avx2! {
+    /// Puts the coefficients that the half bytes of `piece` give into `values` from place `kept` on, as many as
+    /// have room, and returns how many there are then.
+    fn write_kept_half_bytes(eta: i32, piece: &[u8], values: &mut [i32; 256], kept: usize) -> usize {
+        // compiled for each eta, so that no half byte asks which it is
+        if eta == 2 {
+            write_half_bytes_at(2, piece, values, kept)
+        } else {
+            write_half_bytes_at(4, piece, values, kept)
+        }
     }
 }
 
@@ -27,8 +29,8 @@ fn write_half_bytes_at(eta: i32, piece: &[u8], values: &mut [i32; 256], kept: us
         if count == 256 {
             return count;
         }
-        count = write_kept_without_branch(coeff_from_half_byte(eta, *byte % 16), values, count);
-        count = write_kept_without_branch(coeff_from_half_byte(eta, *byte / 16), values, count);
+        count = push_branchless(coeff_from_half_byte(eta, *byte % 16), values, count);
+        count = push_branchless(coeff_from_half_byte(eta, *byte / 16), values, count);
     }
     count
 }

@@ -4,17 +4,20 @@
 use crate::proved::fips204_base::helpers::reduce::center_mod;
 use crate::proved::fips204_base::types::R;
 
-/// The norm of a vector of at least one polynomial: the largest absolute value of a coefficient that
-/// is centred modulo `q`. Coefficients are below `2^31 - 2^22` in absolute value.
-pub fn infinity_norm<const ROW: usize>(w: &[R; ROW]) -> i32 {
-    let mut most = 0;
-    for polynomial in w {
-        most = most.max(norm(polynomial));
+crate::avx2::with_avx2! {
+    /// The norm of a vector of at least one polynomial: the largest absolute value of a coefficient that
+    /// is centred modulo `q`. Coefficients are below `2^31 - 2^22` in absolute value.
+    pub fn infinity_norm<const ROW: usize>(w: &[R; ROW]) -> i32 {
+        let mut most = 0;
+        for polynomial in w {
+            most = most.max(norm(polynomial));
+        }
+        most
     }
-    most
 }
 
 /// The norm of a polynomial.
+#[inline(always)]
 fn norm(w: &R) -> i32 {
     let mut most = 0;
     for x in &w.0 {

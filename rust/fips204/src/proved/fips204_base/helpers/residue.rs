@@ -37,30 +37,36 @@ pub trait Residue: Copy {
 impl Residue for i32 {
     type Meter = Count;
 
+    #[inline(always)]
     fn add(self, other: i32, meter: &mut Count) -> i32 {
         meter.sums += 1;
         self + other
     }
 
+    #[inline(always)]
     fn sub(self, other: i32, meter: &mut Count) -> i32 {
         meter.sums += 1;
         self - other
     }
 
+    #[inline(always)]
     fn mul_zeta(self, m: usize, meter: &mut Count) -> i32 {
         meter.products += 1;
         mont_product(self, zeta_mont(m))
     }
 
+    #[inline(always)]
     fn mul_neg_zeta(self, m: usize, meter: &mut Count) -> i32 {
         meter.products += 1;
         mont_product(self, -zeta_mont(m))
     }
 
+    #[inline(always)]
     fn reduce(self) -> i32 {
         partial_reduce32(self)
     }
 
+    #[inline(always)]
     fn finish(self) -> i32 {
         // 8347681 * 2^32 is 16382 modulo q
         let near = mont_product(self, 16382);
@@ -69,6 +75,7 @@ impl Residue for i32 {
 }
 
 /// The product times the inverse of `2^32` modulo `q`, below `q` in absolute value.
+#[inline(always)]
 fn mont_product(x: i32, factor: i32) -> i32 {
     mont_reduce(wide_product(x, factor))
 }

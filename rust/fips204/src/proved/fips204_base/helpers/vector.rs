@@ -22,6 +22,7 @@ pub fn to_mont<const L: usize>(v: &[T; L]) -> [T; L] {
 }
 
 /// The Montgomery form of a value.
+#[inline(always)]
 pub(crate) fn value_to_mont(x: i32) -> i32 {
     partial_reduce64(i64::from(x) * 4294967296)
 }
@@ -32,31 +33,29 @@ pub(crate) fn value_to_mont(x: i32) -> i32 {
 pub fn mat_vec_mul<const K: usize, const L: usize>(a: &[[T; L]; K], u: &[T; L]) -> [T; K] {
     let mut out = [T0; K];
     for i in 0..K {
-        out[i] = row_sum(&a[i], u);
+        write_row_sums(&a[i], u, &mut out[i].0);
     }
     out
 }
 
-/// The sum of the products of a row of the matrix with the vector, value by value.
-fn row_sum<const L: usize>(row: &[T; L], u: &[T; L]) -> T {
-    let mut out = [0; 256];
-    for j in 0..256 {
-        let mut values = [0; 8];
-        for k in 0..L {
-            values[k] = u[k].0[j];
+crate::avx2::with_avx2! {
+    /// Writes the sums of the products of a row of the matrix with the vector, value by value.
+    ///
+    /// Not inlined, so that the compiler still knows that `out` is apart from both.
+    #[inline(never)]
+    pub(crate) fn write_row_sums<const L: usize>(row: &[T; L], u: &[T; L], out: &mut [i32; 256]) {
+        for j in 0..256 {
+            out[j] = place_sum(row, u, j);
         }
-        out[j] = place_sum(row, &values, j);
     }
-    T(out)
 }
 
-/// The sum of the products of a row of the matrix at one place with as many numbers, modulo `q` and below `q` in
-/// absolute value.
+/// The sum at one place, modulo `q` and below `q` in absolute value.
 #[inline(always)]
-pub(crate) fn place_sum<const L: usize>(row: &[T; L], u: &[i32; 8], j: usize) -> i32 {
+fn place_sum<const L: usize>(row: &[T; L], u: &[T; L], j: usize) -> i32 {
     let mut sum = 0;
     for k in 0..L {
-        sum += wide_product(row[k].0[j], u[k]);
+        sum += wide_product(row[k].0[j], u[k].0[j]);
     }
     reduce_sum(sum)
 }

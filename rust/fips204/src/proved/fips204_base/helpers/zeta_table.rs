@@ -1,9 +1,10 @@
 // Made by tools/erase of crates/fips204_base/src/helpers/zeta_table.rt. Change that, not this.
 //! The powers of zeta in Montgomery form.
 
-/// Entry `m` is `zeta^BitRev8(m) * 2^32` modulo `q`, from 0 to `q - 1` (FIPS 204, Appendix B, in Montgomery form).
+/// The powers `zeta^BitRev8(m) * 2^32` modulo `q`, from 0 to `q - 1`, as what `$each` makes of them.
 #[rustfmt::skip]
-pub const ZETA_TABLE_MONT: [i32; 256] = [
+macro_rules! zetas {
+    ($each:ident) => { $each![
     4193792, 25847, 5771523, 7861508, 237124, 7602457, 7504169, 466468, 1826347, 2353451, 8021166,
     6288512, 3119733, 5495562, 3111497, 2680103, 2725464, 1024112, 7300517, 3585928, 7830929,
     7260833, 2619752, 6271868, 6262231, 4520680, 6980856, 5102745, 1757237, 8360995, 4010497,
@@ -28,10 +29,41 @@ pub const ZETA_TABLE_MONT: [i32; 256] = [
     3014001, 810149, 1652634, 4686184, 6581310, 5341501, 3523897, 3866901, 269760, 2213111, 7404533,
     1717735, 472078, 7953734, 1723600, 6577327, 1910376, 6712985, 7276084, 8119771, 4546524,
     5441381, 6144432, 7959518, 6094090, 183443, 7403526, 1612842, 4834730, 7826001, 3919660,
-    8332111, 7018208, 3937738, 1400424, 7534263, 1976782,
-];
+    8332111, 7018208, 3937738, 1400424, 7534263, 1976782
+    ] };
+}
+
+macro_rules! numbers {
+    ($($zeta:literal),*) => { [$($zeta),*] };
+}
+
+// 58728449 is the inverse of q modulo 2^32
+macro_rules! words {
+    ($($zeta:literal),*) => { [$(i64::wrapping_mul($zeta, (58728449 << 32) + 1)),*] };
+}
+
+macro_rules! words_of_negatives {
+    ($($zeta:literal),*) => { [$(i64::wrapping_mul((1 << 32) - $zeta, (58728449 << 32) + 1)),*] };
+}
+
+/// Entry `m` is `zeta^BitRev8(m) * 2^32` modulo `q`, from 0 to `q - 1` (FIPS 204, Appendix B, in Montgomery form).
+pub const ZETA_TABLE_MONT: [i32; 256] = zetas!(numbers);
+
+const WORDS: [i64; 256] = zetas!(words);
+
+const WORDS_OF_NEGATIVES: [i64; 256] = zetas!(words_of_negatives);
 
 /// The power of zeta that butterflies multiply by at `m`, in Montgomery form.
 pub(crate) fn zeta_mont(m: usize) -> i32 {
     ZETA_TABLE_MONT[m]
+}
+
+/// Its words, which `factor_words` would give.
+pub(crate) fn zeta_words(m: usize) -> i64 {
+    WORDS[m]
+}
+
+/// The words of its negative.
+pub(crate) fn neg_zeta_words(m: usize) -> i64 {
+    WORDS_OF_NEGATIVES[m]
 }

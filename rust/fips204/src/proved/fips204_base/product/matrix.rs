@@ -1,10 +1,10 @@
 // Made by tools/erase of crates/fips204_base/src/product/matrix.rt. Change that, not this.
 //! The matrix times a vector: the matrix as it stands, or row by row from its seed.
 
-use super::Transforms;
+use super::{Transforms, write_at};
 use crate::proved::fips204_base::fault::Fault;
 use crate::proved::fips204_base::hashing::write_next_row;
-use crate::proved::fips204_base::helpers::vector::place_sum;
+use crate::proved::fips204_base::helpers::vector::write_row_sums;
 use crate::proved::fips204_base::lanes::Lanes;
 use crate::proved::fips204_base::types::{R, T, T0};
 use crate::proved::fips204_base::xof::Xof;
@@ -25,48 +25,82 @@ pub fn write_matrix_product<const K: usize, const L: usize>(
     w.write_plain(out);
 }
 
-/// Writes `A v` for the matrix of `rho`, with one row of it at a time. `K` and `L` are those of a parameter set.
+/// Writes `A v` over `v`, for the matrix of `rho`, with one row of it at a time. `K` and `L` are those of a parameter set.
 /// Internal: serves the crate `fips204` alone.
 ///
-/// Errors: `SamplingLimit` if an entry reaches its limit.
+/// Errors: `SamplingLimit` if an entry reaches its limit; `v` may then have been written in part.
+///
+/// Not inlined, so that the rows leave the stack before the product is used.
+#[inline(never)]
 pub fn write_sampled_product<const K: usize, const L: usize, G: Xof>(
     rho: &[u8; 32],
-    v: &Transforms,
-    out: &mut Transforms,
+    v: &mut Transforms,
 ) -> Result<(), Fault> {
     let mut row = [T0; L];
     let mut ahead = [T0; 4];
+    let mut values = Values::zeros();
+    v.write_values(&mut values);
     for r in 0..K {
         write_next_row::<K, L, G>(rho, r, &mut ahead, &mut row)?;
-        out.write_row_product(r, &row, v);
+        v.write_row_product(r, &row, &values);
     }
     Ok(())
+}
+
+/// The transforms of a vector of `L` polynomials, one after the other, as rows of the matrix are multiplied with them.
+///
+/// Contracts see these transforms.
+pub struct Values<const L: usize> {
+    transforms: [T; L],
+}
+
+impl<const L: usize> Values<L> {
+    /// Transforms of zeros.
+    pub fn zeros() -> Values<L> {
+        Values {
+            transforms: [T0; L],
+        }
+    }
 }
 
 impl Transforms {
     /// Becomes `A v` (Algorithm 48) where it was `v`; the matrix is given by its transforms.
     #[inline(never)]
     pub fn multiply_by<const K: usize, const L: usize>(&mut self, a: &[[T; L]; K]) {
-        for n in 0..256usize {
-            self.values[n] = sums_at(a, self.values[n], n);
+        let mut values = Values::zeros();
+        self.write_values(&mut values);
+        for r in 0..K {
+            self.write_row_product(r, &a[r], &values);
         }
     }
 
-    /// Polynomial `r` becomes the product of a row of the matrix with `v`; the others stay.
-    pub fn write_row_product<const L: usize>(&mut self, r: usize, row: &[T; L], v: &Transforms) {
+    /// Polynomial `r` becomes the product of a row of the matrix with the vector of these transforms; the others stay.
+    pub fn write_row_product<const L: usize>(&mut self, r: usize, row: &[T; L], v: &Values<L>) {
+        let mut sums = [0; 256];
+        write_row_sums(row, &v.transforms, &mut sums);
         for n in 0..256usize {
-            let sum = place_sum(row, &v.values[n].to_array(), n);
-            self.values[n] = self.values[n].with_lane(r, sum);
+            self.values[n] = self.values[n].with_lane(r, sums[n]);
         }
+    }
+
+    /// Writes the transforms, one after the other.
+    pub fn write_values<const L: usize>(&self, out: &mut Values<L>) {
+        write_values(&self.values, &mut out.transforms);
     }
 }
 
-/// The sums of the products of the rows of the matrix with the lanes, at one place.
-#[inline(always)]
-fn sums_at<const K: usize, const L: usize>(a: &[[T; L]; K], x: Lanes, n: usize) -> Lanes {
-    let mut entries = [0; 8];
-    for r in 0..K {
-        entries[r] = place_sum(&a[r], &x.to_array(), n);
+/// Writes the transforms that are in the lanes.
+fn write_values<const L: usize>(lanes: &[Lanes; 256], out: &mut [T; L]) {
+    for n in 0..256usize {
+        write_values_at(lanes[n], n, out);
     }
-    Lanes::from_array(entries)
+}
+
+/// Writes value `n` of each transform.
+#[inline(always)]
+fn write_values_at<const L: usize>(x: Lanes, n: usize, out: &mut [T; L]) {
+    let entries = x.to_array();
+    for k in 0..L {
+        write_at(&mut out[k].0, n, entries[k]);
+    }
 }

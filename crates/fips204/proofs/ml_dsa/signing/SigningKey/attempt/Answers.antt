@@ -60,13 +60,13 @@ returns-in_err-c-clause-answer g c =
     let refused : c.from_residual.result ≡ Err SamplingLimit = search rules in
     rw refused (sym (whole g (goal.at.returns-in_err-c-clause-answer g c).After-write_commitment_hash ∙ checked_attempt-limit (set_of p) c.args.self.now.parts c.expand_mask-y.result (vector_coefficients c.write_matrix_product.new.out) c.write_commitment_hash.new.c_tilde _ none))
 
-pub rejection_checks-requires : goal.rejection_checks-requires
-rejection_checks-requires g c =
+pub finish_attempt-requires : goal.finish_attempt-requires
+finish_attempt-requires g c =
     let p = c.args.p.now in
     let front = g.H.Xof.front c.write_commitment_hash.new.c_tilde in
     let sampled : Ok c.in_ok-c.c ≡ ok_or (challenge (nat_abs p.tau) front) SamplingLimit = rw (to_z-of_z w32 p.tau (search rules)) at c.in_ok-c.ensures in
     let reduced = challenge-reduced (nat_abs p.tau) front c.in_ok-c.c (some_of_ok (challenge (nat_abs p.tau) front) c.in_ok-c.c sampled) in
-    let mask = small g (goal.at.rejection_checks-requires g c).After-expand_mask-y in
+    let mask = small g (goal.at.finish_attempt-requires g c).After-expand_mask-y in
     let few = (matrix-shape p g.row.K g.row.L (search rules) c.requires.inputs.sizes.rows c.requires.inputs.sizes.columns).1 in
     let known = limits p (search rules) in (
       search rules,
@@ -98,8 +98,8 @@ returns-clause-answer g c =
     let front = g.H.Xof.front c.write_commitment_hash.new.c_tilde in
     let sampled : Ok c.in_ok-c.c ≡ ok_or (challenge (nat_abs p.tau) front) SamplingLimit = rw (to_z-of_z w32 p.tau (search rules)) at c.in_ok-c.ensures in
     let there = some_of_ok (challenge (nat_abs p.tau) front) c.in_ok-c.c sampled in
-    c.rejection_checks.ensures.answer
+    c.finish_attempt.ensures.answer
     ∙ sym (whole g (goal.at.returns-clause-answer g c).After-write_commitment_hash ∙ ap (checked_attempt (set_of p) c.args.self.now.parts c.expand_mask-y.result (vector_coefficients c.write_matrix_product.new.out) c.write_commitment_hash.new.c_tilde) there)
 
 pub returns-clause-kept : goal.returns-clause-kept
-returns-clause-kept g c = λ rejected. c.rejection_checks.ensures.kept (λ yes. rejected (ap Ok yes))
+returns-clause-kept g c = λ rejected. c.finish_attempt.ensures.kept (λ yes. rejected (ap Ok yes))

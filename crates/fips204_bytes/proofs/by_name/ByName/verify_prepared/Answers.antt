@@ -1,4 +1,0 @@
-use Rattle.fips204_bytes.proofs.by_name.ByName.verify_prepared.Goals as goal
-
-pub returns-in-MlDsa87 : goal.returns-in-MlDsa87
-returns-in-MlDsa87 g c = rw c.in-MlDsa87.is c.verify_prepared-in-MlDsa87.ensures

@@ -1,5 +1,0 @@
-use Rattle.fips204_bytes.proofs.Mu.{framed_stands_for_input}
-use Rattle.fips204_bytes.proofs.laws.framed_stands_for_input.Goals as goal
-
-pub returns : goal.returns
-returns c = λ p H G. framed_stands_for_input p H G (c.hooks.ensures p H G)

@@ -1,5 +1,0 @@
-use Rattle.fips204_bytes.proofs.KeyRange.{range_is_of_fields}
-use Rattle.fips204_bytes.proofs.laws.key_range.Goals as goal
-
-pub returns : goal.returns
-returns _ = λ p known key answer small long checks. range_is_of_fields p known key small long answer checks

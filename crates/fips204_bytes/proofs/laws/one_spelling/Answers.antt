@@ -1,5 +1,0 @@
-use Rattle.fips204_bytes.proofs.Spellings.{one_spelling}
-use Rattle.fips204_bytes.proofs.laws.one_spelling.Goals as goal
-
-pub returns : goal.returns
-returns c = λ p H known. one_spelling p H known c.signature_spelling.ensures (c.key_bytes.ensures p known)

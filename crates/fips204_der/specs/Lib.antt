@@ -1,3 +1,0 @@
-pub mod Der
-pub mod Keys
-pub mod Reading

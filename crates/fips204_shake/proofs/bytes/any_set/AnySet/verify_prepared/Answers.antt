@@ -1,0 +1,4 @@
+use Rattle.fips204_shake.proofs.bytes.any_set.AnySet.verify_prepared.Goals as goal
+
+pub returns-in-MlDsa87 : goal.returns-in-MlDsa87
+returns-in-MlDsa87 g c = rw c.in-MlDsa87.is c.verify_prepared-in-MlDsa87.ensures

@@ -1,4 +1,0 @@
-mod Buffered
-mod Endings
-mod Judging
-pub mod LinesInSequence

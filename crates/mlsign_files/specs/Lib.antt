@@ -1,4 +1,0 @@
-pub mod Faults
-pub mod Pem
-pub mod PemReading
-pub mod Lax

@@ -1,7 +1,0 @@
-// Made by tools/erase of crates/fips204_bytes/src/slices.rt. Change that, not this.
-//! Slices as arrays.
-
-/// Bytes of a known number as an array, where they lie.
-pub fn array_of<const N: usize>(bytes: &[u8]) -> &[u8; N] {
-    <&[_; N]>::try_from(&*bytes).ok().unwrap()
-}
