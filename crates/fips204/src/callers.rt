@@ -217,7 +217,7 @@ pub(crate) fn accepted_for_both_over_one_byte(
     key.verify(first, signature, ctx) && key.verify(second, signature, ctx)
 }
 
-/// Two messages or digests that break no condition are the same, part by part, where their framed messages are; and no
+/// Two messages or digests that break no condition are the same, part by part, if their framed messages are; and no
 /// message is framed as a digest is.
 pub(crate) fn one_message()
     ensures messages { (m n c d : List ℕ) → input_fault (plain m c) ≡ None → input_fault (plain n d) ≡ None

@@ -54,19 +54,19 @@ pub fn inverse_of_transform()
     ensures { InverseOfTransform }
 {}
 
-/// `UseHint(MakeHint(z, r), r)` is `HighBits(r + z)`, for residues `r` and `z` where the centred value of `z`
+/// `UseHint(MakeHint(z, r), r)` is `HighBits(r + z)`, for residues `r` and `z` if the centred value of `z`
 /// is at most gamma2 in absolute value.
 pub fn use_hint_of_make_hint()
     ensures { HintGivesHighBits }
 {}
 
-/// The centred value of `r - 2 gamma2 UseHint(h, r)` is at most gamma2 in absolute value where `h` is 0, and
-/// at most 2 gamma2 + 1 where it is 1.
+/// The centred value of `r - 2 gamma2 UseHint(h, r)` is at most gamma2 in absolute value if `h` is 0, and
+/// at most 2 gamma2 + 1 if it is 1.
 pub fn use_hint_distance()
     ensures { HintStaysNear }
 {}
 
-/// `HighBits(r + s)` is `HighBits(r)`, for residues `r` and `s` where the centred value of `s` is at most beta in
+/// `HighBits(r + s)` is `HighBits(r)`, for residues `r` and `s` if the centred value of `s` is at most beta in
 /// absolute value, and `LowBits(r)` is below gamma2 - beta.
 pub fn high_bits_stay()
     ensures { HighBitsStay }
@@ -170,8 +170,8 @@ pub fn counter_fronts()
 /// Longer outputs keep results. If each output of `H` is a prefix of the matching output of `LongerH`, and each output
 /// of `G` of that of `LongerG`, then a matrix or an entry of it, a small polynomial or a challenge that the first pair
 /// samples is also sampled by the second. So these stay: a key pair, a derived public key, a prepared key, a signature,
-/// the error `TooManyAttempts`, a true of a verifying call, and its false where the matrix of the key and the challenge
-/// of the signature exist, where the bytes spell no hint, where `z` is too large, or where a condition on context,
+/// the error `TooManyAttempts`, a true of a verifying call, and its false if the matrix of the key and the challenge
+/// of the signature exist, if the bytes spell no hint, if `z` is too large, or if a condition on context,
 /// object identifier and digest is broken. This holds for messages, digests and the hashes of the hooks.
 ///
 /// Only the error `SamplingLimit`, and the false of a verifying call that comes from a reached limit, may change.

@@ -22,7 +22,7 @@ pub use matrix::{Values, write_matrix_product, write_sampled_product};
 use std::marker::Model;
 
 /// A vector of at most eight polynomials, as their transforms: lane `r` of value `n` is value `n` of the transform of
-/// polynomial `r`, and zero where there is no polynomial `r`.
+/// polynomial `r`, and zero if there is no polynomial `r`.
 ///
 /// Contracts see the vector itself: eight polynomials with coefficients from 0 to `q - 1`.
 #[derive(Drop)]
@@ -277,7 +277,7 @@ fn write_last_lanes<const N: usize>(lanes: &[Lanes; 256], out: &mut [R; N])
     }
 }
 
-/// Coefficient `n` of each polynomial, with 0 where there is none. Coefficients are below `q` in absolute value.
+/// Coefficient `n` of each polynomial, with 0 if there is none. Coefficients are below `q` in absolute value.
 #[inline(always)]
 fn lanes_of<const N: usize>(v: &[R; N], n: usize) -> Lanes
     requires few { N ≤ 8 }

@@ -9,7 +9,7 @@ use Rattle.fips204.specs.declared.sets.SetName.TheVariants.{MlDsa44, MlDsa65, Ml
 use Rattle.fips204.specs.Packing.{bit_length}
 use Rattle.fips204_shake.specs.declared.der.fault.DerFault.TheVariants.{Element, Version, KeyLength}
 use Rattle.fips204_shake.specs.Der.{element, length_bytes, octet_string, bit_string, small_integer, integer_tag, bit_string_tag, octet_string_tag, sequence_tag, context_tag_0}
-use Rattle.fips204_shake.specs.Keys.{identifier, algorithm_identifier, public_length, seed_length, private_length, subject_public_key_info, PrivateParts, Seed, Expanded, Both, private_choice, HasPrivateSizes, one_asymmetric_key, IsPublicFile, IsPrivateFile}
+use Rattle.fips204_shake.specs.Keys.{identifier, algorithm_identifier, public_length, seed_length, private_length, subject_public_key_info, FileParts, Seed, Expanded, Both, private_choice, HasPrivateSizes, one_asymmetric_key, IsPublicFile, IsPrivateFile}
 use Rattle.fips204_shake.specs.Reading.{sized_at, algorithm_of, algorithm_at, whole_bytes_of, public_at, string_at, both_at, choice_at, version_at, private_at}
 use Rattle.fips204_shake.proofs.Elements.{bind_ok, chosen, ok_is, met, same_bytes, element_found, element_again, whole_found, whole_again}
 
@@ -119,7 +119,7 @@ public_again algorithm bytes size =
 
 -- ---- private keys
 
-pub record IsChoice (bytes : List ℕ) (algorithm : SetName) (parts : PrivateParts) : Type 0 where
+pub record IsChoice (bytes : List ℕ) (algorithm : SetName) (parts : FileParts) : Type 0 where
   pub sizes : HasPrivateSizes (private_length algorithm) parts
   pub is : bytes ≡ private_choice parts
 
@@ -135,7 +135,7 @@ string_again : (tag size : ℕ) (string : List ℕ) → length string ≡ size �
 unfolding string_at
 string_again tag size string is small = rw (whole_again tag string (omega arith), sized_again size string is) refl
 
-both_found : (algorithm : SetName) (bytes : List ℕ) (parts : PrivateParts) → both_at algorithm bytes ≡ Ok parts
+both_found : (algorithm : SetName) (bytes : List ℕ) (parts : FileParts) → both_at algorithm bytes ≡ Ok parts
     → IsChoice bytes algorithm parts
 unfolding both_at private_choice
 both_found algorithm bytes parts e =
@@ -154,7 +154,7 @@ both_found algorithm bytes parts e =
     } in
     subst (IsChoice bytes algorithm) (ap (λ (z : List ℕ). Both z d.0) seed.0 ∙ ok_is (Both c.0 d.0) parts d.2) here
 
-choice_found : (algorithm : SetName) (bytes : List ℕ) (parts : PrivateParts) → choice_at algorithm bytes ≡ Ok parts
+choice_found : (algorithm : SetName) (bytes : List ℕ) (parts : FileParts) → choice_at algorithm bytes ≡ Ok parts
     → IsChoice bytes algorithm parts
 unfolding choice_at private_choice
 choice_found algorithm [] parts e = absurd cc
@@ -182,7 +182,7 @@ version_found bytes rest e =
     element_found integer_tag bytes a.0 a.1 ∙ ap (λ (z : List ℕ). element integer_tag z ++ a.0.1) (same_bytes a.0.0 (0 ∷ []) m.0)
     ∙ ap (λ (z : List ℕ). small_integer 0 ++ z) m.1
 
-pub private_found : (der : List ℕ) (x : SetName × PrivateParts) → private_at der ≡ Ok x → IsPrivateFile der x.0 x.1
+pub private_found : (der : List ℕ) (x : SetName × FileParts) → private_at der ≡ Ok x → IsPrivateFile der x.0 x.1
 unfolding private_at one_asymmetric_key
 private_found der x e =
     let a = bind_ok _ _ x e in
@@ -203,7 +203,7 @@ private_found der x e =
           ∙ ap (λ (z : List ℕ). algorithm_identifier c.0.0 ++ z) (contents
           ∙ ap (λ (z : List ℕ). octet_string z) choice.is)));
     } in
-    subst (λ (y : SetName × PrivateParts). IsPrivateFile der y.0 y.1) (ok_is (c.0.0, f.0) x f.2) here
+    subst (λ (y : SetName × FileParts). IsPrivateFile der y.0 y.1) (ok_is (c.0.0, f.0) x f.2) here
 
 pub private_small : (algorithm : SetName) → private_length algorithm ≤ 4896
 unfolding bit_length
@@ -222,14 +222,14 @@ pub both_small : (algorithm : SetName) (seed expanded : List ℕ) → length see
 both_small algorithm seed expanded first second =
     omega (arith, private_small algorithm, length_of_two octet_string_tag octet_string_tag seed expanded)
 
-pub choice_small : (algorithm : SetName) (parts : PrivateParts) → HasPrivateSizes (private_length algorithm) parts → length (private_choice parts) < 65000
+pub choice_small : (algorithm : SetName) (parts : FileParts) → HasPrivateSizes (private_length algorithm) parts → length (private_choice parts) < 65000
 unfolding private_choice
 choice_small algorithm (Seed seed) sizes = omega (arith, length_of_element context_tag_0 seed)
 choice_small algorithm (Expanded expanded) sizes = omega (arith, length_of_element octet_string_tag expanded, private_small algorithm)
 choice_small algorithm (Both seed expanded) sizes =
     omega (arith, both_small algorithm seed expanded sizes.0 sizes.1, length_of_element sequence_tag (octet_string seed ++ octet_string expanded))
 
-choice_again : (algorithm : SetName) (parts : PrivateParts) → HasPrivateSizes (private_length algorithm) parts → choice_at algorithm (private_choice parts) ≡ Ok parts
+choice_again : (algorithm : SetName) (parts : FileParts) → HasPrivateSizes (private_length algorithm) parts → choice_at algorithm (private_choice parts) ≡ Ok parts
 unfolding choice_at private_choice both_at
 choice_again algorithm (Seed seed) sizes = rw (string_again context_tag_0 seed_length seed sizes (omega arith)) refl
 choice_again algorithm (Expanded expanded) sizes =
@@ -246,7 +246,7 @@ version_again : (rest : List ℕ) → version_at (small_integer 0 ++ rest) ≡ O
 unfolding version_at
 version_again rest = rw (element_again integer_tag (0 ∷ []) rest (omega arith)) refl
 
-private_info_small : (algorithm : SetName) (parts : PrivateParts) → HasPrivateSizes (private_length algorithm) parts
+private_info_small : (algorithm : SetName) (parts : FileParts) → HasPrivateSizes (private_length algorithm) parts
     → length (small_integer 0 ++ (algorithm_identifier algorithm ++ octet_string (private_choice parts))) < 65536
 private_info_small algorithm parts sizes =
     omega (
@@ -256,7 +256,7 @@ private_info_small algorithm parts sizes =
       length_of_two sequence_tag octet_string_tag (identifier algorithm) (private_choice parts),
     )
 
-pub private_again : (algorithm : SetName) (parts : PrivateParts) → HasPrivateSizes (private_length algorithm) parts
+pub private_again : (algorithm : SetName) (parts : FileParts) → HasPrivateSizes (private_length algorithm) parts
     → private_at (one_asymmetric_key algorithm parts) ≡ Ok (algorithm, parts)
 unfolding private_at one_asymmetric_key
 private_again algorithm parts sizes =
@@ -272,5 +272,5 @@ private_again algorithm parts sizes =
 pub public_of_file : (der : List ℕ) (algorithm : SetName) (bytes : List ℕ) → IsPublicFile der algorithm bytes → public_at der ≡ Ok (algorithm, bytes)
 public_of_file der algorithm bytes file = ap public_at file.is ∙ public_again algorithm bytes file.size
 
-pub private_of_file : (der : List ℕ) (algorithm : SetName) (parts : PrivateParts) → IsPrivateFile der algorithm parts → private_at der ≡ Ok (algorithm, parts)
+pub private_of_file : (der : List ℕ) (algorithm : SetName) (parts : FileParts) → IsPrivateFile der algorithm parts → private_at der ≡ Ok (algorithm, parts)
 private_of_file der algorithm parts file = ap private_at file.is ∙ private_again algorithm parts file.sizes

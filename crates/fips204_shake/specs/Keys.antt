@@ -41,36 +41,36 @@ abbrev pub public_file_length : SetName → ℕ
 public_file_length algorithm = public_length algorithm + 22
 
 -- a private key without where it lies in memory
-pub data PrivateParts : Type 0 where
-  Seed : List ℕ → PrivateParts
-  Expanded : List ℕ → PrivateParts
-  Both : List ℕ → List ℕ → PrivateParts
+pub data FileParts : Type 0 where
+  Seed : List ℕ → FileParts
+  Expanded : List ℕ → FileParts
+  Both : List ℕ → List ℕ → FileParts
 
-abbrev pub private_parts : PrivateKey → PrivateParts
-private_parts (key.Seed seed) = Seed seed.now
-private_parts (key.Expanded expanded) = Expanded expanded.now
-private_parts (key.Both seed expanded) = Both seed.now expanded.now
+abbrev pub file_parts : PrivateKey → FileParts
+file_parts (key.Seed seed) = Seed seed.now
+file_parts (key.Expanded expanded) = Expanded expanded.now
+file_parts (key.Both seed expanded) = Both seed.now expanded.now
 
 -- ML-DSA-PrivateKey ::= CHOICE { seed [0] IMPLICIT OCTET STRING, expandedKey OCTET STRING,
 --   both SEQUENCE { seed OCTET STRING, expandedKey OCTET STRING } }
-unfoldable pub private_choice : PrivateParts → List ℕ
+unfoldable pub private_choice : FileParts → List ℕ
 private_choice (Seed seed) = element context_tag_0 seed
 private_choice (Expanded expanded) = octet_string expanded
 private_choice (Both seed expanded) = sequence (octet_string seed ++ octet_string expanded)
 
 -- the sizes of its strings; the expanded key has so many bytes
-abbrev pub HasPrivateSizes : ℕ → PrivateParts → Type 0
+abbrev pub HasPrivateSizes : ℕ → FileParts → Type 0
 HasPrivateSizes size (Seed seed) = length seed ≡ seed_length
 HasPrivateSizes size (Expanded expanded) = length expanded ≡ size
 HasPrivateSizes size (Both seed expanded) = (length seed ≡ seed_length) × (length expanded ≡ size)
 
 -- OneAsymmetricKey ::= SEQUENCE { version INTEGER, privateKeyAlgorithm AlgorithmIdentifier, privateKey OCTET STRING }, of version 0
-unfoldable pub one_asymmetric_key : SetName → PrivateParts → List ℕ
+unfoldable pub one_asymmetric_key : SetName → FileParts → List ℕ
 one_asymmetric_key algorithm parts =
     sequence (small_integer 0 ++ (algorithm_identifier algorithm ++ octet_string (private_choice parts)))
 
 -- the bytes of its file
-abbrev pub private_file_length : ℕ → PrivateParts → ℕ
+abbrev pub private_file_length : ℕ → FileParts → ℕ
 private_file_length size (Seed seed) = 54
 private_file_length size (Expanded expanded) = size + 28
 private_file_length size (Both seed expanded) = size + 66
@@ -81,6 +81,6 @@ pub record IsPublicFile (der : List ℕ) (algorithm : SetName) (bytes : List ℕ
   pub is : der ≡ subject_public_key_info algorithm bytes
 
 -- the bytes are the file of this private key
-pub record IsPrivateFile (der : List ℕ) (algorithm : SetName) (parts : PrivateParts) : Type 0 where
+pub record IsPrivateFile (der : List ℕ) (algorithm : SetName) (parts : FileParts) : Type 0 where
   pub sizes : HasPrivateSizes (private_length algorithm) parts
   pub is : der ≡ one_asymmetric_key algorithm parts

@@ -2,7 +2,7 @@
 use Rattle.std.specs.Prelude.{◌≡◌, ℕ, ◌+◌, ◌*◌, List, [], ◌∷◌, length, take, drop, Result, Ok, Err, nat_lt, ◌==◌, if◌then◌else◌}
 use Rattle.std.specs.Str.{bytes_eq}
 use Rattle.fips204_shake.specs.Der.{length_bytes, integer_tag, bit_string_tag, octet_string_tag, sequence_tag, context_tag_0}
-use Rattle.fips204_shake.specs.Keys.{PrivateParts, Seed, Expanded, Both, identifier, public_length, seed_length, private_length}
+use Rattle.fips204_shake.specs.Keys.{FileParts, Seed, Expanded, Both, identifier, public_length, seed_length, private_length}
 use Rattle.fips204.specs.declared.sets.SetName.{SetName}
 use Rattle.fips204.specs.declared.sets.SetName.TheVariants.{MlDsa44, MlDsa65, MlDsa87}
 use Rattle.fips204_shake.specs.declared.der.fault.DerFault.{DerFault}
@@ -101,7 +101,7 @@ public_at der = do
   Ok (algorithm.0, sized)
 
 -- the three forms of a private key, by their tags
-unfoldable pub both_at : SetName → List ℕ → Result PrivateParts DerFault
+unfoldable pub both_at : SetName → List ℕ → Result FileParts DerFault
 both_at algorithm bytes = do
   contents ← whole_at sequence_tag bytes
   first ← element_at octet_string_tag contents
@@ -109,7 +109,7 @@ both_at algorithm bytes = do
   expanded ← string_at octet_string_tag (private_length algorithm) first.1
   Ok (Both seed expanded)
 
-unfoldable pub choice_at : SetName → List ℕ → Result PrivateParts DerFault
+unfoldable pub choice_at : SetName → List ℕ → Result FileParts DerFault
 choice_at algorithm [] = Err Short
 choice_at algorithm (tag ∷ rest) =
     if tag == context_tag_0 then string_at context_tag_0 seed_length (tag ∷ rest) >>= (λ seed. Ok (Seed seed))
@@ -122,7 +122,7 @@ version_at bytes = do
   version ← element_at integer_tag bytes
   if bytes_eq version.0 (0 ∷ []) then Ok version.1 else Err Version
 
-unfoldable pub private_at : List ℕ → Result (SetName × PrivateParts) DerFault
+unfoldable pub private_at : List ℕ → Result (SetName × FileParts) DerFault
 private_at der = do
   info ← whole_at sequence_tag der
   rest ← version_at info

@@ -139,7 +139,7 @@ impl Xof for Shake128Stream {
 /// That the output of the XOFs ends changes nothing but the error which says so: a law, which computes nothing. The
 /// loops of FIPS 204 read as much of SHAKE256 and SHAKE128 as they need. What a call returns here, unless it is
 /// `Fault::SamplingLimit`, it returns over any longer part of that output too; so does verifying with a yes, and with a no
-/// where a matrix and a challenge are there, or where signature, context, identifier or digest are malformed.
+/// if a matrix and a challenge are there, or if signature, context, identifier or digest are malformed.
 pub fn only_limits_differ()
     ensures { OnlyLimitsDiffer }
 {

@@ -1,7 +1,7 @@
 -- What was read of DER, and what is done with it.
 use Rattle.std.proofs.Common.{◌≡◌, ℕ, List, length, Result, Ok, Err, refl, subst}
 use Rattle.fips204.specs.declared.sets.SetName.{SetName}
-use Rattle.fips204_shake.specs.Keys.{PrivateParts, Seed, private_parts, private_length, private_file_length, public_length, public_file_length, IsPublicFile, IsPrivateFile}
+use Rattle.fips204_shake.specs.Keys.{FileParts, Seed, file_parts, private_length, private_file_length, public_length, public_file_length, IsPublicFile, IsPrivateFile}
 use Rattle.fips204_shake.specs.Reading.{private_at}
 use Rattle.fips204_shake.specs.declared.der.fault.DerFault.{DerFault}
 use Rattle.fips204_shake.specs.declared.der.keys.PrivateKey.{PrivateKey}
@@ -10,18 +10,18 @@ use Rattle.mldsa_c.specs.Der.{Reads, IsKey, FromPrivateDer, PublicKeyToDer, Seed
 use Rattle.mldsa_c.proofs.ByStatus.{sized}
 
 -- what holds of a key that is read, or of a status
-reads_as : (read : Result (SetName × PrivateParts) DerFault) (set : SetName) (P Q : PrivateParts → Type 0) (S T : ℕ → Type 0)
-    → ((parts : PrivateParts) → P parts → Q parts) → ((why : ℕ) → S why → T why) → Reads read set P S → Reads read set Q T
+reads_as : (read : Result (SetName × FileParts) DerFault) (set : SetName) (P Q : FileParts → Type 0) (S T : ℕ → Type 0)
+    → ((parts : FileParts) → P parts → Q parts) → ((why : ℕ) → S why → T why) → Reads read set P S → Reads read set Q T
 reads_as (Ok x) set P Q S T uses refuses reads = (λ same. uses x.1 (reads.0 same), λ other. refuses 24 (reads.1 other))
 reads_as (Err fault) set P Q S T uses refuses reads = refuses _ reads
 
 -- the same of the file that the bytes are
-from_file : (set : SetName) (wanted : ℕ) (der old : List ℕ) (writes : PrivateParts → Type 0) (keeps : ℕ → Type 0) → length old ≡ wanted
+from_file : (set : SetName) (wanted : ℕ) (der old : List ℕ) (writes : FileParts → Type 0) (keeps : ℕ → Type 0) → length old ≡ wanted
     → Reads (private_at der) set writes keeps → FromPrivateDer set wanted der old writes keeps
 from_file set wanted der old writes keeps size reads = record {
   only = λ parts file _.
       let moved : Reads (Ok (set, parts)) set writes keeps =
-      subst (λ (read : Result (SetName × PrivateParts) DerFault). Reads read set writes keeps) (private_of_file der set parts file) reads in
+      subst (λ (read : Result (SetName × FileParts) DerFault). Reads read set writes keeps) (private_of_file der set parts file) reads in
       moved.0 refl;
   exact = (λ _. reads, λ other. absurd (other size));
 }
@@ -39,15 +39,15 @@ one_status : (status why : ℕ) → ErrKey status ≡ Err why → status ≡ why
 one_status status why e = cc
 
 -- a key was read, or a status was given
-pub of_key : (set : SetName) (wanted : ℕ) (der old : List ℕ) (read : Result PrivateKey ℕ) (key : PrivateKey) (writes : PrivateParts → Type 0) (keeps : ℕ → Type 0)
-    → length old ≡ wanted → read ≡ Ok key → writes (private_parts key) → Reads (private_at der) set (λ parts. IsKey read parts) (λ why. read ≡ Err why)
+pub of_key : (set : SetName) (wanted : ℕ) (der old : List ℕ) (read : Result PrivateKey ℕ) (key : PrivateKey) (writes : FileParts → Type 0) (keeps : ℕ → Type 0)
+    → length old ≡ wanted → read ≡ Ok key → writes (file_parts key) → Reads (private_at der) set (λ parts. IsKey read parts) (λ why. read ≡ Err why)
     → FromPrivateDer set wanted der old writes keeps
 of_key set wanted der old read key writes keeps size is written told =
     let read_as : Reads (private_at der) set (λ parts. IsKey (OkKey key) parts) (λ why. OkKey key ≡ Err why) = rw is at told in
     from_file set wanted der old writes keeps size (reads_as (private_at der) set (λ parts. IsKey (OkKey key) parts) writes (λ why. OkKey key ≡ Err why) keeps
     (λ parts same. subst writes same written) (λ why e. no_status key why (keeps why) e) read_as)
 
-pub of_status : (set : SetName) (wanted : ℕ) (der old : List ℕ) (read : Result PrivateKey ℕ) (status : ℕ) (writes : PrivateParts → Type 0) (keeps : ℕ → Type 0)
+pub of_status : (set : SetName) (wanted : ℕ) (der old : List ℕ) (read : Result PrivateKey ℕ) (status : ℕ) (writes : FileParts → Type 0) (keeps : ℕ → Type 0)
     → length old ≡ wanted → read ≡ Err status → keeps status → Reads (private_at der) set (λ parts. IsKey read parts) (λ why. read ≡ Err why)
     → FromPrivateDer set wanted der old writes keeps
 of_status set wanted der old read status writes keeps size is kept told =

@@ -9,7 +9,7 @@ use Rattle.fips204_shake.specs.Bytes as bytes
 use Rattle.fips204_base.specs.declared.fault.Fault.TheVariants.{KeyRange}
 use Rattle.fips204_shake.specs.declared.bytes.refusal.Refusal.{Refusal}
 use Rattle.fips204_shake.specs.declared.bytes.refusal.Refusal.TheVariants.{Library}
-use Rattle.fips204_shake.specs.Keys.{PrivateParts, Seed, Expanded, Both, private_parts, public_length, private_length, public_file_length, private_file_length, IsPublicFile, IsPrivateFile}
+use Rattle.fips204_shake.specs.Keys.{FileParts, Seed, Expanded, Both, file_parts, public_length, private_length, public_file_length, private_file_length, IsPublicFile, IsPrivateFile}
 use Rattle.fips204_shake.specs.Reading.{public_at, private_at}
 use Rattle.fips204_shake.specs.declared.der.fault.DerFault.{DerFault}
 use Rattle.fips204_shake.specs.declared.der.keys.PrivateKey.{PrivateKey}
@@ -50,13 +50,13 @@ IfPair p key fits refuses = (answer : Result Bool Refusal) × bytes.ChecksPair p
 
 -- a private key in DER has keys, and the expanded one is used, or the call returns an error: the seed generates it, and
 -- it is the one beside the seed; or an expanded key alone is one of a pair
-abbrev pub IfConsistent : ParameterSet → PrivateParts → (List ℕ → Type 0) → (ℕ → Type 0) → Type 0
+abbrev pub IfConsistent : ParameterSet → FileParts → (List ℕ → Type 0) → (ℕ → Type 0) → Type 0
 IfConsistent p (Seed seed) uses refuses = IfGenerated p seed uses refuses
 IfConsistent p (Expanded expanded) uses refuses = IfPair p expanded (uses expanded) refuses
 IfConsistent p (Both seed expanded) uses refuses = IfGenerated p seed (λ key. IfSame key expanded (uses key) (refuses 25)) refuses
 
 -- the same of its seed, if it has one; nothing is generated but beside an expanded key
-abbrev pub IfSeed : ParameterSet → PrivateParts → (List ℕ → Type 0) → (ℕ → Type 0) → Type 0
+abbrev pub IfSeed : ParameterSet → FileParts → (List ℕ → Type 0) → (ℕ → Type 0) → Type 0
 IfSeed p (Seed seed) uses refuses = uses seed
 IfSeed p (Expanded expanded) uses refuses = refuses 26
 IfSeed p (Both seed expanded) uses refuses = IfConsistent p (Both seed expanded) (λ key. uses seed) refuses
@@ -66,8 +66,8 @@ abbrev pub Reads : {A : Type 0} → Result (SetName × A) DerFault → SetName �
 Reads read set uses refuses = MatchResult read (λ x. IfSame x.0 set (uses x.1) (refuses 24)) (λ fault. refuses (status_of_der fault))
 
 -- a private key was read that has these parts
-abbrev pub IsKey : Result PrivateKey ℕ → PrivateParts → Type 0
-IsKey read parts = MatchResult read (λ key. private_parts key ≡ parts) (λ why. ⊥)
+abbrev pub IsKey : Result PrivateKey ℕ → FileParts → Type 0
+IsKey read parts = MatchResult read (λ key. file_parts key ≡ parts) (λ why. ⊥)
 
 -- an array has these bytes
 abbrev pub Has : List ℕ → ℕ → List ℕ → Type 0
@@ -80,8 +80,8 @@ pub record PublicKeyFromDer (set : SetName) (der old new : List ℕ) (status : �
   pub exact : IfSized (public_length set) old (Reads (public_at der) set (Has new status) (Keeps old new status)) (Keeps old new status 2)
 
 -- private_key_from_der, and seed_from_der
-pub record FromPrivateDer (set : SetName) (wanted : ℕ) (der old : List ℕ) (writes : PrivateParts → Type 0) (keeps : ℕ → Type 0) : Type 0 where
-  pub only : (parts : PrivateParts) → IsPrivateFile der set parts → length old ≡ wanted → writes parts
+pub record FromPrivateDer (set : SetName) (wanted : ℕ) (der old : List ℕ) (writes : FileParts → Type 0) (keeps : ℕ → Type 0) : Type 0 where
+  pub only : (parts : FileParts) → IsPrivateFile der set parts → length old ≡ wanted → writes parts
   pub exact : IfSized wanted old (Reads (private_at der) set writes keeps) (keeps 2)
 
 abbrev pub PrivateKeyFromDer : SetName → List ℕ → List ℕ → List ℕ → ℕ → Type 0
@@ -98,12 +98,12 @@ PublicKeyToDer set key old new status =
     IfSized (public_length set) key (IfSized (public_file_length set) old (IsPublicFile new set key × (status ≡ 0)) (Keeps old new status 2)) (Keeps old new status 2)
 
 -- private_key_to_der, seed_to_der and both_to_der: what is given has its length, and so has the file with these parts
-abbrev pub ToPrivateDer : SetName → PrivateParts → ℕ → List ℕ → List ℕ → List ℕ → ℕ → Type 0 → Type 0
+abbrev pub ToPrivateDer : SetName → FileParts → ℕ → List ℕ → List ℕ → List ℕ → ℕ → Type 0 → Type 0
 ToPrivateDer set parts wanted given old new status fits =
     IfSized wanted given (IfSized (private_file_length (private_length set) parts) old fits (Keeps old new status 2)) (Keeps old new status 2)
 
 -- the file of a private key with these parts is written
-abbrev pub IsFile : SetName → PrivateParts → List ℕ → ℕ → Type 0
+abbrev pub IsFile : SetName → FileParts → List ℕ → ℕ → Type 0
 IsFile set parts new status = IsPrivateFile new set parts × (status ≡ 0)
 
 abbrev pub SeedToDer : SetName → List ℕ → List ℕ → List ℕ → ℕ → Type 0

@@ -3,7 +3,7 @@
 
 ghost use Rattle.std.specs.Prelude.{◌≡◌, length, Ok, Err, IfOk};
 ghost use Rattle.fips204.specs.Sets.{named_set};
-ghost use Rattle.fips204_shake.specs.Keys.{HasPrivateSizes, private_parts, private_length};
+ghost use Rattle.fips204_shake.specs.Keys.{HasPrivateSizes, file_parts, private_length};
 ghost use Rattle.fips204_shake.specs.Reading.{private_at};
 ghost use Rattle.mldsa_c.specs.Pieces.{Keeps};
 ghost use Rattle.mldsa_c.specs.Der.{status_of_der, IfGenerated, IfPair, IfSame, IfConsistent, IfSeed, IsKey, Has, Reads, PublicKeyFromDer, PrivateKeyFromDer, SeedFromDer, PublicKeyToDer, SeedToDer, PrivateKeyToDer, BothToDer};
@@ -85,8 +85,8 @@ fn check_both(set: SetName, seed: &[u8; 32], private_key: &[u8]) -> Result<(), u
 
 /// Writes the expanded key of a private key.
 fn write_expanded(set: SetName, key: PrivateKey<'_>, private_key: &mut [u8]) -> u32
-    requires { HasPrivateSizes (private_length set) (private_parts key) × (length private_key.old ≡ private_length set) }
-    ensures { IfConsistent (named_set set) (private_parts key.entry) (Has private_key.new result) (Keeps private_key.old private_key.new result) }
+    requires { HasPrivateSizes (private_length set) (file_parts key) × (length private_key.old ≡ private_length set) }
+    ensures { IfConsistent (named_set set) (file_parts key.entry) (Has private_key.new result) (Keeps private_key.old private_key.new result) }
 {
     match key {
         PrivateKey::Seed(seed) => match generate(set, array_of(seed), private_key) {
@@ -112,8 +112,8 @@ fn write_expanded(set: SetName, key: PrivateKey<'_>, private_key: &mut [u8]) -> 
 
 /// Writes the seed of a private key.
 fn write_seed(set: SetName, key: PrivateKey<'_>, out: &mut [u8]) -> u32
-    requires { HasPrivateSizes (private_length set) (private_parts key) × (length out.old ≡ 32) }
-    ensures { IfSeed (named_set set) (private_parts key.entry) (Has out.new result) (Keeps out.old out.new result) }
+    requires { HasPrivateSizes (private_length set) (file_parts key) × (length out.old ≡ 32) }
+    ensures { IfSeed (named_set set) (file_parts key.entry) (Has out.new result) (Keeps out.old out.new result) }
 {
     match key {
         PrivateKey::Seed(seed) => {
@@ -133,7 +133,7 @@ fn write_seed(set: SetName, key: PrivateKey<'_>, out: &mut [u8]) -> u32
 
 /// The private key of a parameter set that DER has; an error is a status.
 fn private_key_of(set: SetName, der: &[u8]) -> Result<PrivateKey<'_>, u32>
-    ensures sizes { IfOk result (λ key. HasPrivateSizes (private_length set) (private_parts key)) }
+    ensures sizes { IfOk result (λ key. HasPrivateSizes (private_length set) (file_parts key)) }
     ensures exact { Reads (private_at der.now) set (λ parts. IsKey result parts) (λ why. result ≡ Err why) }
 {
     match read_private(der) {

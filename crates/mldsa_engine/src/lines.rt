@@ -207,7 +207,7 @@ fn read_bytes<I: Read>(
     judge(number, wanted, hex::decode(alloc, line.as_slice()))
 }
 
-/// Reads the bytes of the wanted lines, of which the first has this number: as many bytes of each as are wanted of it, or any
+/// Reads the bytes of the wanted lines; the first has this number: as many bytes of each as are wanted of it, or any
 /// number of them. A line is judged as soon as it is there, and no byte past the last one's LF is taken.
 pub fn read_lines<I: Read>(
     alloc: Global,

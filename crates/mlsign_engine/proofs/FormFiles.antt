@@ -5,7 +5,7 @@ use Rattle.fips204.specs.Packing.{bit_length}
 use Rattle.fips204.specs.Sets.{named_set}
 use Rattle.fips204.specs.declared.sets.SetName.{SetName}
 use Rattle.fips204.specs.declared.sets.SetName.TheVariants.{MlDsa44, MlDsa65, MlDsa87}
-use Rattle.fips204_shake.specs.Keys.{PrivateParts as FileParts, Seed, Expanded, Both, HasPrivateSizes, public_length, private_length}
+use Rattle.fips204_shake.specs.Keys.{FileParts, Seed, Expanded, Both, HasPrivateSizes, public_length, private_length}
 use Rattle.mlsign_engine.specs.Lax.{strict_form}
 use Rattle.mlsign_engine.specs.Pem.{IsPem}
 use Rattle.mlsign_engine.specs.Faults.{of_der}

@@ -25,7 +25,7 @@ use Rattle.fips204_shake.specs.declared.bytes.refusal.Buffer.TheVariants.{Signat
 use Rattle.fips204_shake.specs.declared.bytes.refusal.Refusal.{Refusal}
 use Rattle.fips204_shake.specs.declared.bytes.refusal.Refusal.TheVariants as refusal
 use Rattle.fips204_shake.specs.Fronts.{shake256_front, shake128_front, length-shake256_front}
-use Rattle.fips204_shake.specs.Keys.{PrivateParts as FileParts, Seed, Expanded, Both, HasPrivateSizes}
+use Rattle.fips204_shake.specs.Keys.{FileParts, Seed, Expanded, Both, HasPrivateSizes}
 use Rattle.mlsign_engine.specs.Commands.{HasNoKeys, IsRefused, FailsToGenerate, IsValid, IsValidUnder, IsSigned, CannotSign, SignedIsValid}
 use Rattle.mlsign_engine.specs.InnerSteps.{HasPrivateBytes, HasNoKeysOrMemory}
 use Rattle.mlsign_engine.specs.Keys.{HasKeys, HasBytes}

@@ -21,7 +21,7 @@ use Rattle.mlsign_engine.specs.declared.forms.Form.TheVariants.{Pem}
 use Rattle.mlsign_engine.specs.declared.forms.Parts.TheVariants.{Kept}
 use Rattle.mlsign_engine.specs.declared.keys.AnyKey.{AnyKey}
 use Rattle.mlsign_engine.specs.declared.keys.AnyKey.TheVariants as key
-use Rattle.fips204_shake.specs.Keys.{PrivateParts as FileParts, Seed, Expanded, Both}
+use Rattle.fips204_shake.specs.Keys.{FileParts, Seed, Expanded, Both}
 use Rattle.mlsign_engine.specs.PemReading.{FailsLike}
 use Rattle.mlsign_engine.specs.declared.fault.FileFault.{FileFault}
 use Rattle.mlsign_engine.specs.declared.fault.FileFault.TheVariants.{OtherKind}

@@ -10,7 +10,7 @@ use Rattle.mlsign_engine.specs.declared.forms.Form.{Form}
 use Rattle.mlsign_engine.specs.declared.forms.Form.TheVariants.{Pem, Der, Raw}
 use Rattle.mlsign_engine.specs.declared.forms.Parts.{Parts}
 use Rattle.mlsign_engine.specs.declared.forms.Parts.TheVariants as part
-use Rattle.fips204_shake.specs.Keys.{IsPublicFile, IsPrivateFile, PrivateParts as FileParts, Seed, Expanded, Both, HasPrivateSizes, public_length, private_length, seed_length}
+use Rattle.fips204_shake.specs.Keys.{IsPublicFile, IsPrivateFile, FileParts, Seed, Expanded, Both, HasPrivateSizes, public_length, private_length, seed_length}
 use Rattle.mlsign_engine.specs.Lax.{strict_form}
 use Rattle.mlsign_engine.specs.Pem.{IsPem}
 use Rattle.mlsign_engine.specs.PemReading.{pem_at}

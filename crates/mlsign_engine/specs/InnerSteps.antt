@@ -6,7 +6,7 @@ use Rattle.mlsign_engine.specs.Commands.{HasNoKeys}
 use Rattle.mlsign_engine.specs.Keys.{HasKeys}
 use Rattle.mlsign_engine.specs.declared.fault.CommandFault.{CommandFault}
 use Rattle.mlsign_engine.specs.declared.fault.CommandFault.TheVariants.{Memory}
-use Rattle.fips204_shake.specs.Keys.{PrivateParts as FileParts}
+use Rattle.fips204_shake.specs.Keys.{FileParts}
 
 -- the bytes are those of the private one of a file's keys
 pub record HasPrivateBytes (p : ParameterSet) (parts : FileParts) (bytes : List ℕ) : Type 0 where

@@ -10,7 +10,7 @@ use Rattle.fips204_shake.specs.Prepared.{PreparesPublic, PreparesPrivate}
 use Rattle.fips204_shake.specs.Fronts.{shake256_front, shake128_front}
 use Rattle.mlsign_engine.specs.declared.keys.Held.{Held}
 use Rattle.mlsign_engine.specs.declared.keys.Held.TheVariants as held
-use Rattle.fips204_shake.specs.Keys.{PrivateParts as FileParts, Seed, Expanded, Both, HasPrivateSizes}
+use Rattle.fips204_shake.specs.Keys.{FileParts, Seed, Expanded, Both, HasPrivateSizes}
 
 -- a public key: its parameter set and its bytes
 pub record PublicValue : Type 0 where

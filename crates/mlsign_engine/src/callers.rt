@@ -4,7 +4,7 @@
 ghost use Rattle.std.specs.Prelude.{◌≡◌, ℕ, List, Bool, IfOk, IsTrue, Ok};
 ghost use Rattle.fips204.specs.Sets.{named_set};
 ghost use Rattle.fips204.specs.declared.sets.SetName.{SetName as Name};
-ghost use Rattle.fips204_shake.specs.Keys.{PrivateParts};
+ghost use Rattle.fips204_shake.specs.Keys.{FileParts};
 ghost use Rattle.mlsign_engine.specs.Commands.{IsSigned, Judges, MakesTexts};
 ghost use Rattle.mlsign_engine.specs.Forms.{HasPrivate, HasPublic, IsPublicIn, public_in, private_in, read_as};
 ghost use Rattle.mlsign_engine.specs.Keys.{IsConsistent, PairValue, PublicValue, public_of_pair};
@@ -34,7 +34,7 @@ pub(crate) fn valid_parts()
         → Judges public signature context message valid → IsTrue valid }
     ensures public { (form : Form) (set found : Name) (file bytes : List ℕ) → HasPublic form set file found bytes
         → public_in form set file ≡ Ok (found, bytes) }
-    ensures private { (form : Form) (set found : Name) (file : List ℕ) (parts : PrivateParts) → HasPrivate form set file found parts
+    ensures private { (form : Form) (set found : Name) (file : List ℕ) (parts : FileParts) → HasPrivate form set file found parts
         → private_in form set file ≡ Ok (found, parts) }
 {
     signed_is_valid();

@@ -2,7 +2,7 @@
 #![tactic(auto)]
 
 ghost use Rattle.std.specs.Prelude.{◌≡◌, length, Some, IfOk, IfErr};
-ghost use Rattle.fips204_shake.specs.Keys.{HasPrivateSizes, IsPublicFile, IsPrivateFile, private_length, private_parts, public_length};
+ghost use Rattle.fips204_shake.specs.Keys.{HasPrivateSizes, IsPublicFile, IsPrivateFile, private_length, file_parts, public_length};
 ghost use Rattle.fips204_shake.specs.Keys.{private_file_length};
 ghost use Rattle.fips204_shake.specs.Reading.{Gives, public_at};
 ghost use Rattle.mlsign_engine.specs.Faults.{of_der};
@@ -141,9 +141,9 @@ pub fn read_key(
 
 /// The private key with these bytes.
 fn raw_parts(set: SetName, bytes: &[u8]) -> Result<PrivateKey<'_>, FileFault>
-    ensures sizes { IfOk result (λ key. HasPrivateSizes (private_length set) (private_parts key)) }
-    ensures raw { IfOk result (λ key. IsRaw (private_parts key) bytes.now) }
-    ensures exact { Gives (λ key. (set, private_parts key)) result (raw_private_at set bytes.now) }
+    ensures sizes { IfOk result (λ key. HasPrivateSizes (private_length set) (file_parts key)) }
+    ensures raw { IfOk result (λ key. IsRaw (file_parts key) bytes.now) }
+    ensures exact { Gives (λ key. (set, file_parts key)) result (raw_private_at set bytes.now) }
 {
     if bytes.len() == SEED_LENGTH {
         return Ok(PrivateKey::Seed(bytes));
@@ -186,8 +186,8 @@ pub(crate) fn public_file(
 
 /// The bytes of a private key of one part.
 fn raw_of(alloc: Global, key: PrivateKey<'_>) -> Result<Vec<u8>, AllocError>
-    requires { CanBe (private_parts key) Raw }
-    ensures { IfOk result (λ file. IsRaw (private_parts key.entry) file.items) }
+    requires { CanBe (file_parts key) Raw }
+    ensures { IfOk result (λ file. IsRaw (file_parts key.entry) file.items) }
 {
     match key {
         PrivateKey::Seed(bytes) | PrivateKey::Expanded(bytes) => Vec::from_slice(alloc, bytes),
@@ -198,7 +198,7 @@ fn raw_of(alloc: Global, key: PrivateKey<'_>) -> Result<Vec<u8>, AllocError>
 /// How many bytes the file in DER of a private key has.
 #[tactic(auto, using(fips204_shake::proofs::KeyFiles::private_small))]
 fn private_file_len(algorithm: SetName, key: PrivateKey<'_>) -> usize
-    ensures { result ≡ private_file_length (private_length algorithm) (private_parts key.entry) }
+    ensures { result ≡ private_file_length (private_length algorithm) (file_parts key.entry) }
 {
     let size = algorithm.private_key_len();
     match key {
@@ -214,8 +214,8 @@ fn private_der(
     algorithm: SetName,
     key: PrivateKey<'_>,
 ) -> Result<Vec<u8>, AllocError>
-    requires { HasPrivateSizes (private_length algorithm) (private_parts key) }
-    ensures { IfOk result (λ der. IsPrivateFile der.items algorithm (private_parts key.entry)) }
+    requires { HasPrivateSizes (private_length algorithm) (file_parts key) }
+    ensures { IfOk result (λ der. IsPrivateFile der.items algorithm (file_parts key.entry)) }
 {
     let mut der = vec![in alloc; 0; private_file_len(algorithm, key)]?;
     write_private(algorithm, key, der.as_mut_slice());
@@ -229,9 +229,9 @@ pub(crate) fn private_file(
     algorithm: SetName,
     key: PrivateKey<'_>,
 ) -> Result<Vec<u8>, AllocError>
-    requires sizes { HasPrivateSizes (private_length algorithm) (private_parts key) }
-    requires form { CanBe (private_parts key) form }
-    ensures { IfOk result (λ file. IsPrivateIn form file.items algorithm (private_parts key.entry)) }
+    requires sizes { HasPrivateSizes (private_length algorithm) (file_parts key) }
+    requires form { CanBe (file_parts key) form }
+    ensures { IfOk result (λ file. IsPrivateIn form file.items algorithm (file_parts key.entry)) }
 {
     if form == Form::Raw {
         return raw_of(alloc, key);
@@ -275,9 +275,9 @@ fn chosen<'a>(
     key: PrivateKey<'a>,
     expanded: &'a [u8],
 ) -> Result<PrivateKey<'a>, CommandFault>
-    ensures parts { IfOk result (λ chosen. parts_as parts (private_parts key.entry) expanded.now ≡ Some (private_parts chosen)) }
-    ensures form { IfOk result (λ chosen. CanBe (private_parts chosen) form) }
-    ensures fault { IfErr result (FailsToConvert form parts (private_parts key.entry)) }
+    ensures parts { IfOk result (λ chosen. parts_as parts (file_parts key.entry) expanded.now ≡ Some (file_parts chosen)) }
+    ensures form { IfOk result (λ chosen. CanBe (file_parts chosen) form) }
+    ensures fault { IfErr result (FailsToConvert form parts (file_parts key.entry)) }
 {
     match parts {
         Parts::Expanded => Ok(PrivateKey::Expanded(expanded)),

@@ -7,7 +7,7 @@ ghost use Rattle.fips204_shake.specs.Fronts.{shake256_front};
 ghost use Rattle.mlsign_engine.specs.Keys.{HasBytes, IsConsistent, public_of_pair};
 ghost use Rattle.mlsign_engine.specs.InnerSteps.{HasPrivateBytes, HasNoKeysOrMemory};
 ghost use Rattle.mlsign_engine.specs.declared.fault.CommandFault.TheVariants.{Memory};
-ghost use Rattle.fips204_shake.specs.Keys.{Seed, Expanded, HasPrivateSizes, private_length, public_length, private_parts};
+ghost use Rattle.fips204_shake.specs.Keys.{Seed, Expanded, HasPrivateSizes, private_length, public_length, file_parts};
 
 use crate::fault::CommandFault;
 use fips204::laws;
@@ -114,11 +114,11 @@ impl KeyPair {
         set: SetName,
         key: PrivateKey<'_>,
     ) -> Result<KeyPair, CommandFault>
-        requires { HasPrivateSizes (private_length set) (private_parts key) }
+        requires { HasPrivateSizes (private_length set) (file_parts key) }
         ensures algorithm { IfOk result (λ pair. pair.algorithm ≡ set) }
-        ensures parts { IfOk result (λ pair. pair.parts ≡ private_parts key.entry) }
+        ensures parts { IfOk result (λ pair. pair.parts ≡ file_parts key.entry) }
         ensures consistent { IfOk result IsConsistent }
-        ensures fault { IfErr result (HasNoKeysOrMemory (named_set set) (private_parts key.entry)) }
+        ensures fault { IfErr result (HasNoKeysOrMemory (named_set set) (file_parts key.entry)) }
     {
         match key {
             PrivateKey::Seed(seed) => {
@@ -153,8 +153,8 @@ impl KeyPair {
 
     /// What a file has of it.
     pub(crate) fn parts(&self) -> PrivateKey<'_>
-        ensures parts { private_parts result ≡ self.now.parts }
-        ensures sizes { HasPrivateSizes (private_length self.now.algorithm) (private_parts result) }
+        ensures parts { file_parts result ≡ self.now.parts }
+        ensures sizes { HasPrivateSizes (private_length self.now.algorithm) (file_parts result) }
     {
         let private = self.private.as_slice();
         match &self.held {

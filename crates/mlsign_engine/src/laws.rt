@@ -6,12 +6,12 @@ ghost use Rattle.fips204.specs.declared.sets.SetName.{SetName};
 ghost use Rattle.mlsign_engine.specs.Commands.{SignedIsValid, FilesBelong, MadeFilesBelong, ComeBack};
 ghost use Rattle.mlsign_engine.specs.Forms.{HasPublic, HasPrivate, public_in, private_in};
 ghost use Rattle.mlsign_engine.specs.declared.forms.Form.{Form};
-ghost use Rattle.fips204_shake.specs.Keys.{PrivateParts};
+ghost use Rattle.fips204_shake.specs.Keys.{FileParts};
 
 /// The key that a file has in a form is what is read of it.
 pub fn keys_are_read()
     ensures public { (form : Form) (set : SetName) (file : List ℕ) (x : SetName × List ℕ) → HasPublic form set file x.0 x.1 → public_in form set file ≡ Ok x }
-    ensures private { (form : Form) (set : SetName) (file : List ℕ) (x : SetName × PrivateParts) → HasPrivate form set file x.0 x.1
+    ensures private { (form : Form) (set : SetName) (file : List ℕ) (x : SetName × FileParts) → HasPrivate form set file x.0 x.1
         → private_in form set file ≡ Ok x }
 {}
 

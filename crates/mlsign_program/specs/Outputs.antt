@@ -6,7 +6,7 @@ use Rattle.fips204.specs.ParameterSets.{signature_length}
 use Rattle.fips204.specs.Sets.{named_set}
 use Rattle.mlsign_engine.specs.Commands.{MakesTexts}
 use Rattle.mlsign_engine.specs.Forms.{IsPrivateIn, IsPublicIn}
-use Rattle.fips204_shake.specs.Keys.{PrivateParts}
+use Rattle.fips204_shake.specs.Keys.{FileParts}
 use Rattle.fips204.specs.declared.sets.SetName.{SetName}
 use Rattle.fips204.specs.declared.sets.SetName.TheVariants.{MlDsa44, MlDsa65, MlDsa87}
 use Rattle.mlsign_engine.specs.declared.forms.Form.{Form}
@@ -62,7 +62,7 @@ pub record GeneratesAt (words : ArgMatches) (seed private public : List ℕ) : T
 
 -- a file may have these bytes, by what it is to have: a key in one of the forms, or a signature
 abbrev pub Holds : Content → List ℕ → Type 0
-Holds PrivateKey file = (form : Form) × (algorithm : SetName) × (parts : PrivateParts) × IsPrivateIn form file algorithm parts
+Holds PrivateKey file = (form : Form) × (algorithm : SetName) × (parts : FileParts) × IsPrivateIn form file algorithm parts
 Holds PublicKey file = (form : Form) × (algorithm : SetName) × (bytes : List ℕ) × IsPublicIn form file algorithm bytes
 Holds Signature bytes = (algorithm : SetName) × (length bytes ≡ signature_length (named_set algorithm))
 

@@ -5,7 +5,7 @@ ghost use Rattle.std.specs.Prelude.{◌≡◌, ℕ, List, IfOk, IsTrue, true, fa
 ghost use Rattle.mlsign_engine.specs.Commands.{MakesTexts};
 ghost use Rattle.fips204.specs.declared.sets.SetName.{SetName};
 ghost use Rattle.mlsign_engine.specs.declared.forms.Form.{Form};
-ghost use Rattle.fips204_shake.specs.Keys.{IsPrivateFile, PrivateParts};
+ghost use Rattle.fips204_shake.specs.Keys.{IsPrivateFile, FileParts};
 ghost use Rattle.mlsign_engine.specs.Lax.{kind_of_text};
 ghost use Rattle.mlsign_engine.specs.declared.pem.Kind.TheVariants.{Private};
 ghost use Rattle.mlsign_program.specs.declared.places.Content.TheVariants.{PrivateKey, PublicKey};
@@ -498,7 +498,7 @@ impl Target<'_> {
 /// Whether a file with these bytes is taken for a private key: its text says so, or it has one in DER or in raw bytes.
 fn is_private_key(bytes: &[u8]) -> bool
     ensures text { kind_of_text bytes.now ≡ Private → result ≡ true }
-    ensures file { (algorithm : SetName) (parts : PrivateParts) → IsPrivateFile bytes.now algorithm parts → result ≡ true }
+    ensures file { (algorithm : SetName) (parts : FileParts) → IsPrivateFile bytes.now algorithm parts → result ≡ true }
 {
     kind_of_text(bytes) == Kind::Private
         || read_private(bytes).is_ok()

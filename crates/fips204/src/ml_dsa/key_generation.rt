@@ -216,7 +216,7 @@ pub(crate) fn write_high_part<const K: usize, const L: usize>(
 
 /// Writes `t = A s1 + s2` (Algorithm 6, lines 3 and 5) for the matrix of `rho`, with coefficients from 0 to
 /// `q - 1`. Those of `s1` and `s2` are below `q` in absolute value, and `K` and `L` are those of a parameter set.
-/// Returns `Fault::SamplingLimit` where the matrix passes its limit.
+/// Returns `Fault::SamplingLimit` if the matrix passes its limit.
 fn write_key_vector<const K: usize, const L: usize, G: Xof>(
     rho: &[u8; 32],
     s1: &[R; L],

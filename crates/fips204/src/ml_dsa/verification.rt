@@ -81,7 +81,7 @@ pub(crate) fn verify_prepared<const K: usize, const L: usize, H: Xof>(
     is_committed::<K, H>(p, mu, c_tilde, &h, &c_hat, &mut az, &pk.t1_hat)
 }
 
-/// `verify_prepared` with the matrix that has these bytes, or `None` where a value is `q` or more. The matrix is read
+/// `verify_prepared` with the matrix that has these bytes, or `None` if a value is `q` or more. The matrix is read
 /// row by row.
 pub(crate) fn verify_by_bytes<const K: usize, const L: usize, H: Xof>(
     p: &Params,
@@ -173,7 +173,7 @@ fn is_committed<const K: usize, H: Xof>(
 }
 
 /// Writes the vectors `z` and `h` that a signature opens to (lines 2 to 8), and returns its `c_tilde` and challenge, or
-/// `None` where its last bytes spell no hint, the norm of `z` is not below gamma1 - beta, or the challenge passes its
+/// `None` if its last bytes spell no hint, the norm of `z` is not below gamma1 - beta, or the challenge passes its
 /// limit. Coefficients of `z` and of the challenge are below `q` in absolute value.
 ///
 /// Not inlined, so that what decoding needs leaves the stack before the parts are used.

@@ -19,7 +19,7 @@ pub fn coeff_from_three_bytes(bytes: [u8; 3]) -> Option<i32>
 }
 
 /// `CoeffFromHalfByte` (Algorithm 15): the coefficient in `[-eta, eta]` of a half byte `b`, which is below 16; `eta`
-/// is 2 or 4. `None` where `b` is 15 at `eta` 2, and where it is above 8 at `eta` 4.
+/// is 2 or 4. `None` if `b` is 15 at `eta` 2, and if it is above 8 at `eta` 4.
 #[inline(always)]
 pub fn coeff_from_half_byte(eta: i32, b: u8) -> Option<i32>
     requires set { IsEta eta }

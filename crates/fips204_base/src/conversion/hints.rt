@@ -8,7 +8,7 @@ ghost use Rattle.fips204_base.specs.EncodingSteps.{ones};
 
 use crate::types::{R, R0};
 
-/// Writes the polynomial with ones at `places` and zeros elsewhere, or returns `None` where the places do not strictly
+/// Writes the polynomial with ones at `places` and zeros elsewhere, or returns `None` if the places do not strictly
 /// rise.
 fn write_ones(places: &[u8], w: &mut R) -> Option<()>
     ensures { MatchOption result
@@ -28,7 +28,7 @@ fn write_ones(places: &[u8], w: &mut R) -> Option<()>
     Some(())
 }
 
-/// `HintBitUnpack` (Algorithm 21): the hint that `y` encodes, or `None` where it encodes none.
+/// `HintBitUnpack` (Algorithm 21): the hint that `y` encodes, or `None` if it encodes none.
 ///
 /// `omega` is at least 1, `omega + K` is below 256, and `y` has exactly `omega + K` bytes.
 pub fn hint_bit_unpack<const K: usize>(omega: i32, y: &[u8]) -> Option<[R; K]>

@@ -28,7 +28,7 @@ pub trait Residue: Copy {
 
     ghost sums: { Self.Meter → ℕ };
 
-    /// The sum, where it fits `i32` in each lane.
+    /// The sum, which fits `i32` in each lane.
     fn add(self, other: Self, meter: &mut Self::Meter) -> Self
         requires room { sums meter.old + 1 < 2 ^ 64 }
         requires fits { (j : ℕ) → j < width → FitsSigned w32 (lane (lanes self) j +ℤ lane (lanes other) j) }
@@ -36,7 +36,7 @@ pub trait Residue: Copy {
         ensures products_same { products meter.new ≡ products meter.old }
         ensures sums_up { sums meter.new ≡ sums meter.old + 1 };
 
-    /// The difference, where it fits `i32` in each lane.
+    /// The difference, which fits `i32` in each lane.
     fn sub(self, other: Self, meter: &mut Self::Meter) -> Self
         requires room { sums meter.old + 1 < 2 ^ 64 }
         requires fits { (j : ℕ) → j < width → FitsSigned w32 (lane (lanes self) j -ℤ lane (lanes other) j) }

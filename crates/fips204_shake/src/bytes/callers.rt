@@ -36,7 +36,7 @@ pub(crate) fn mu_parts()
     framed_stands_for_input();
 }
 
-/// Which arrays of the right length no private key has: that of which a field of s1 or s2 is above 2 eta.
+/// Which arrays of the right length no private key has: those in which a field of s1 or s2 is above 2 eta.
 pub(crate) fn range_parts()
     ensures above { (p : ParameterSet) (key : Bytes) (answer : Result ⊤ Refusal) (i : ℕ) → IsSet p → All (λ byte. byte < 256) key → length key ≡ private_key_length p
         → Checks p key answer → i < p.l + p.k → Any (λ x. x <ℤ (pos 0 -ℤ pos p.eta)) (unpacked p.eta p.eta (take (32 * width (pos p.eta) (pos p.eta))

@@ -3,7 +3,7 @@
 
 ghost use Rattle.std.specs.Prelude.{◌≡◌, ℕ, List, Ok, length, IfOk};
 ghost use Rattle.fips204.specs.declared.sets.SetName.{SetName};
-ghost use Rattle.fips204_shake.specs.Keys.{PrivateParts, private_parts, private_choice, HasPrivateSizes};
+ghost use Rattle.fips204_shake.specs.Keys.{FileParts, file_parts, private_choice, HasPrivateSizes};
 ghost use Rattle.fips204_shake.specs.Keys.{IsPublicFile, IsPrivateFile, identifier, public_length, private_length, public_file_length, private_file_length};
 ghost use Rattle.fips204_shake.specs.Reading.{Gives, sized_at, string_at, algorithm_of, algorithm_at, public_at, choice_at, private_at};
 
@@ -121,7 +121,7 @@ pub fn read_public(der: &[u8]) -> Result<(SetName, &[u8]), DerFault>
 /// The private key of an ML-DSA-PrivateKey, in one of its three forms.
 #[tactic(auto, unfolding(crate::specs::Reading::choice_at, crate::specs::Reading::both_at))]
 fn choice(algorithm: SetName, bytes: &[u8]) -> Result<PrivateKey<'_>, DerFault>
-    ensures { Gives private_parts result (choice_at algorithm bytes.now) }
+    ensures { Gives file_parts result (choice_at algorithm bytes.now) }
 {
     let size = algorithm.private_key_len();
     match bytes {
@@ -140,7 +140,7 @@ fn choice(algorithm: SetName, bytes: &[u8]) -> Result<PrivateKey<'_>, DerFault>
 /// The algorithm and the private key of a OneAsymmetricKey.
 #[tactic(auto, unfolding(crate::specs::Reading::private_at, crate::specs::Reading::version_at))]
 fn asymmetric_key(der: &[u8]) -> Result<(SetName, PrivateKey<'_>), DerFault>
-    ensures { Gives (λ x. (x.0, private_parts x.1)) result (private_at der.now) }
+    ensures { Gives (λ x. (x.0, file_parts x.1)) result (private_at der.now) }
 {
     let info = whole(SEQUENCE, der)?;
     let (version, rest) = element(INTEGER, info)?;
@@ -157,12 +157,12 @@ fn asymmetric_key(der: &[u8]) -> Result<(SetName, PrivateKey<'_>), DerFault>
 /// Errors: the first fault from its beginning.
 pub fn read_private(der: &[u8]) -> Result<(SetName, PrivateKey<'_>), DerFault>
     // What is read is what the file has.
-    ensures found { IfOk result (λ x. IsPrivateFile der.now x.0 (private_parts x.1)) }
+    ensures found { IfOk result (λ x. IsPrivateFile der.now x.0 (file_parts x.1)) }
     // The key of a file is read.
-    ensures only { (algorithm : SetName) (parts : PrivateParts) → IsPrivateFile der.now algorithm parts
-        → Gives {Y = SetName × PrivateParts} (λ x. (x.0, private_parts x.1)) result (Ok (algorithm, parts)) }
+    ensures only { (algorithm : SetName) (parts : FileParts) → IsPrivateFile der.now algorithm parts
+        → Gives {Y = SetName × FileParts} (λ x. (x.0, file_parts x.1)) result (Ok (algorithm, parts)) }
     // Which fault it is.
-    ensures exact { Gives (λ x. (x.0, private_parts x.1)) result (private_at der.now) }
+    ensures exact { Gives (λ x. (x.0, file_parts x.1)) result (private_at der.now) }
 {
     asymmetric_key(der)
 }
@@ -183,9 +183,9 @@ pub fn write_public(algorithm: SetName, bytes: &[u8], der: &mut [u8])
 /// Writes the file of a private key in DER: a OneAsymmetricKey of version 0 (RFC 9881, section 6).
 #[tactic(auto, using(crate::proofs::KeyFiles::private_small, crate::proofs::KeyFiles::private_long), unfolding(crate::specs::Keys::one_asymmetric_key, crate::specs::Keys::private_choice))]
 pub fn write_private(algorithm: SetName, key: PrivateKey<'_>, der: &mut [u8])
-    requires sizes { HasPrivateSizes (private_length algorithm) (private_parts key) }
-    requires size { length der.old ≡ private_file_length (private_length algorithm) (private_parts key) }
-    ensures { IsPrivateFile der.new algorithm (private_parts key.entry) }
+    requires sizes { HasPrivateSizes (private_length algorithm) (file_parts key) }
+    requires size { length der.old ≡ private_file_length (private_length algorithm) (file_parts key) }
+    ensures { IsPrivateFile der.new algorithm (file_parts key.entry) }
 {
     let size = algorithm.private_key_len();
     let identifier = identifier(algorithm);

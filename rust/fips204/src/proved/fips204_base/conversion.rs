@@ -65,7 +65,7 @@ fn write_packed_group(w: &[i32], a: i32, b: i32, out: &mut [u8]) {
 }
 
 /// `BitPack` (Algorithm 17): writes the fields of coefficients in `[-a, b]`, each of as many bits as `a + b` has.
-/// The field of a coefficient is its distance from `b`, and where `a` is 0 the coefficient itself.
+/// The field of a coefficient is its distance from `b`, and if `a` is 0 the coefficient itself.
 ///
 /// `a` is from 0 and `b` from 1 to `2^20 - 1`, and `out` has exactly `32 * bit_length(a + b)` bytes.
 #[inline(always)]
@@ -112,7 +112,7 @@ fn write_unpacked_group(v: &[u8], a: i32, b: i32, out: &mut [i32]) {
 }
 
 /// `SimpleBitUnpack` (Algorithm 18): the polynomial whose coefficients are the fields of `v`, each
-/// of as many bits as `b` has. `None` where one is above `b`.
+/// of as many bits as `b` has. `None` if one is above `b`.
 ///
 /// `b` is from 1 to `2^20 - 1`, and `v` has exactly `32 * bit_length(b)` bytes.
 pub fn simple_bit_unpack(v: &[u8], b: i32) -> Option<R> {
@@ -120,7 +120,7 @@ pub fn simple_bit_unpack(v: &[u8], b: i32) -> Option<R> {
 }
 
 /// `BitUnpack` (Algorithm 19): the polynomial whose fields stand in `v`, each of as many bits as `a + b` has. `None`
-/// where `a` is 0 and a field is above `b`; where `a` is above 0 a coefficient may come out below `-a`.
+/// if `a` is 0 and a field is above `b`; if `a` is above 0 a coefficient may come out below `-a`.
 ///
 /// `a` is from 0 and `b` from 1 to `2^20 - 1`, and `v` has exactly `32 * bit_length(a + b)` bytes.
 #[inline(always)]

@@ -83,7 +83,7 @@ pub fn make_hint(gamma2: i32, z: Zq, r: Zq) -> bool {
     high_bits(gamma2, r) != high_bits(gamma2, r + z)
 }
 
-/// `UseHint` (FIPS 204, Algorithm 40): the high bits of `r`, which a hint moves by one, up where the low bits are
+/// `UseHint` (FIPS 204, Algorithm 40): the high bits of `r`, which a hint moves by one, up if the low bits are
 /// above 0 and else down, and round at the ends. `h` is 0 or 1, and the conditions of `decompose` hold.
 #[inline(always)]
 pub fn use_hint(gamma2: i32, h: Zq, r: Zq) -> Zq {

@@ -132,7 +132,7 @@ fn halves(x: i64x4) -> i32x8 {
     i32x8::from_le_bytes(x.to_le_bytes())
 }
 
-/// The words of a factor: the low one is the factor, and the high one gives its lowest 32 bits where it is multiplied by
+/// The words of a factor: the low one is the factor, and the high one gives its lowest 32 bits if it is multiplied by
 /// `q`; 58728449 is the inverse of `q` modulo `2^32`.
 #[inline(always)]
 fn factor_words(factor: i32) -> i64 {

@@ -2,7 +2,7 @@
 //! Steps over the coefficients of polynomials and of vectors, each by one closure, as new values or in
 //! place. Internal: serves the crate `fips204` alone.
 //!
-//! The form for vectors also states the whole result: where the closure's result at each place is that of
+//! The form for vectors also states the whole result: if the closure's result at each place is that of
 //! a function of the place, the vector is the one of this function.
 
 use crate::proved::fips204_base::types::R;

@@ -24,7 +24,7 @@ pub trait XofReader {
     fn read(&mut self, out: &mut [u8]);
 
     /// Fills the outputs with the next bytes of four readers, as `read` of each does. The outputs are of one length, and each
-    /// reader has as many bytes left; or the fourth is empty, where only three are wanted.
+    /// reader has as many bytes left; or the fourth is empty, if only three are wanted.
     ///
     /// A reader may have a body of its own, which makes the bytes of the four side by side.
     fn read_four(

@@ -165,7 +165,7 @@ impl<const R: usize> ShakeReader<R> {
     }
 
     /// Fills the outputs with the next bytes of four readers, as `read` of each does. The outputs are of one length; or the fourth
-    /// is empty, where only three are wanted. Blocks that begin together are made side by side.
+    /// is empty, if only three are wanted. Blocks that begin together are made side by side.
     pub fn read_four(
         a: &mut ShakeReader<R>,
         b: &mut ShakeReader<R>,
@@ -190,7 +190,7 @@ impl<const R: usize> ShakeReader<R> {
         }
     }
 
-    /// Makes the next blocks of four readers side by side, where the first three have given their last ones. The fourth one's is
+    /// Makes the next blocks of four readers side by side, when the first three have given their last ones. The fourth one's is
     /// dropped if it has not. What a reader gives next stays the same.
     fn refill_four(
         a: &mut ShakeReader<R>,

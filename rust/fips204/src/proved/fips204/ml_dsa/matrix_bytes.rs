@@ -30,7 +30,7 @@ fn write_entry(t: &T, out: &mut [u8]) {
     }
 }
 
-/// Reads a matrix, or returns `None` where a value is `q` or more; `a` may then have been written in part.
+/// Reads a matrix, or returns `None` if a value is `q` or more; `a` may then have been written in part.
 pub(crate) fn read_matrix<const K: usize, const L: usize>(
     bytes: &[u8],
     a: &mut [[T; L]; K],
@@ -43,7 +43,7 @@ pub(crate) fn read_matrix<const K: usize, const L: usize>(
     Some(())
 }
 
-/// Writes `A v` over `v`, for the matrix that has these bytes, with one row of it at a time, or returns `None` where a value
+/// Writes `A v` over `v`, for the matrix that has these bytes, with one row of it at a time, or returns `None` if a value
 /// is `q` or more; `v` may then have been written in part.
 ///
 /// Not inlined, so that the rows leave the stack before the product is used.
@@ -64,7 +64,7 @@ pub(crate) fn write_read_product<const K: usize, const L: usize>(
     Some(())
 }
 
-/// Does nothing where a matrix has these bytes, or returns `None` where a value is `q` or more.
+/// Does nothing if a matrix has these bytes, or returns `None` if a value is `q` or more.
 pub(crate) fn check_matrix<const K: usize, const L: usize>(bytes: &[u8]) -> Option<()> {
     let mut row = [T0; L];
     let size = 1024 * L;
@@ -75,7 +75,7 @@ pub(crate) fn check_matrix<const K: usize, const L: usize>(bytes: &[u8]) -> Opti
     Some(())
 }
 
-/// Reads a row of a matrix, or returns `None` where a value is `q` or more.
+/// Reads a row of a matrix, or returns `None` if a value is `q` or more.
 fn read_row<const L: usize>(bytes: &[u8], row: &mut [T; L]) -> Option<()> {
     for s in 0..L {
         let at = 1024 * s;
@@ -84,7 +84,7 @@ fn read_row<const L: usize>(bytes: &[u8], row: &mut [T; L]) -> Option<()> {
     Some(())
 }
 
-/// Reads an entry of a matrix, or returns `None` where a value is `q` or more.
+/// Reads an entry of a matrix, or returns `None` if a value is `q` or more.
 fn read_entry(bytes: &[u8], t: &mut T) -> Option<()> {
     let words = <&[_; 1024]>::try_from(&*bytes).ok()?;
     for n in 0..256 {

@@ -154,7 +154,7 @@ impl<'a, const K: usize, const L: usize, H: Xof, G> SigningKey<'a, K, L, H, G> {
 
 impl<'a, const K: usize, const L: usize, H, G> SigningKey<'a, K, L, H, G> {
     /// Writes the signature of an attempt with mask `y`, `w = A y`, `c_tilde` and challenge. Returns false, and writes
-    /// nothing, where one of the checks rejects it.
+    /// nothing, if one of the checks rejects it.
     ///
     /// Coefficients of `y` are in `[1 - gamma1, gamma1]`, those of `w` and `c` below `q` in absolute value.
     /// `K`, `L`, `SIG_LEN` and the length of `c_tilde` are those of the parameter set. Overwrites `w` and

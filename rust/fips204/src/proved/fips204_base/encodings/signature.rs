@@ -6,7 +6,7 @@ use crate::proved::fips204_base::conversion::{hint_bit_pack, write_unpacked_hint
 use crate::proved::fips204_base::high_low::high_count;
 use crate::proved::fips204_base::types::{R, R0};
 
-/// `sigDecode` (Algorithm 27): the parts of a signature, `c_tilde`, `z` and the hint, or `None` where
+/// `sigDecode` (Algorithm 27): the parts of a signature, `c_tilde`, `z` and the hint, or `None` if
 /// its last `omega + K` bytes encode no hint. Coefficients of `z` are in `[1 - gamma1, gamma1]`.
 ///
 /// `gamma1` is 131072 or 524288, `omega` is at least 1, `omega + K` is below 256, and `SIG_LEN` is the length of the
@@ -27,7 +27,7 @@ pub fn sig_decode<
     Some((*c_tilde.first_chunk::<LAMBDA_DIV4>().unwrap(), z, h))
 }
 
-/// `sig_decode` of a `c_tilde` of `size` bytes, with `z` and the hint written into the caller's places; where there are
+/// `sig_decode` of a `c_tilde` of `size` bytes, with `z` and the hint written into the caller's places; if there are
 /// none, part of them may be written. Internal: serves the crate `fips204` alone.
 pub fn write_signature_parts<'a, const K: usize, const L: usize>(
     gamma1: i32,

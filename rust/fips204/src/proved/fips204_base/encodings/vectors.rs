@@ -22,13 +22,13 @@ pub fn write_packed_vector<const N: usize>(v: &[R; N], a: i32, b: i32, out: &mut
     }
 }
 
-/// Writes the polynomial whose bytes these are, where every field is that of a coefficient in `[-a, b]`.
+/// Writes the polynomial whose bytes these are, if every field is that of a coefficient in `[-a, b]`.
 #[inline(always)]
 fn write_unpacked_polynomial(bytes: &[u8], a: i32, b: i32, w: &mut R) {
     write_unpacked_by_range(bytes, a, b, w).unwrap();
 }
 
-/// Writes the vector whose bytes these are, where every field is that of a coefficient in `[-a, b]`.
+/// Writes the vector whose bytes these are, if every field is that of a coefficient in `[-a, b]`.
 #[inline(always)]
 pub fn write_unpacked_vector<const N: usize>(bytes: &[u8], a: i32, b: i32, v: &mut [R; N]) {
     let size = polynomial_size(a, b);
@@ -38,7 +38,7 @@ pub fn write_unpacked_vector<const N: usize>(bytes: &[u8], a: i32, b: i32, v: &m
     }
 }
 
-/// Writes the polynomial with coefficients in `[-eta, eta]` whose bytes these are, or returns `None` where a field is that
+/// Writes the polynomial with coefficients in `[-eta, eta]` whose bytes these are, or returns `None` if a field is that
 /// of no such coefficient.
 fn write_unpacked_short_polynomial(bytes: &[u8], eta: i32, w: &mut R) -> Option<()> {
     write_unpacked_by_range(bytes, eta, eta, w)?;
@@ -49,7 +49,7 @@ fn write_unpacked_short_polynomial(bytes: &[u8], eta: i32, w: &mut R) -> Option<
     }
 }
 
-/// Writes the vector with coefficients in `[-eta, eta]` whose bytes these are, or returns `None` where a field is that of
+/// Writes the vector with coefficients in `[-eta, eta]` whose bytes these are, or returns `None` if a field is that of
 /// no such coefficient; then part of it may be written.
 pub fn write_unpacked_short_vector<const N: usize>(
     bytes: &[u8],

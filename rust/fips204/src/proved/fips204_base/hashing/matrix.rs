@@ -11,7 +11,7 @@ use crate::proved::fips204_base::xof::{Xof, XofReader};
 use crate::simd::{u8x16, u32x4};
 
 /// The numbers of the four triples at the start of 16 bytes, without the top bit of each: those that
-/// CoeffFromThreeBytes (Algorithm 14) keeps where they are below `q`.
+/// CoeffFromThreeBytes (Algorithm 14) keeps if they are below `q`.
 #[inline(always)]
 fn four_numbers(bytes: u8x16) -> [i32; 4] {
     let apart = bytes.shuffle(
@@ -187,7 +187,7 @@ pub fn write_expanded_a<const K: usize, const L: usize, G: Xof>(
     Ok(())
 }
 
-/// Writes row `r` of the matrix (Algorithm 32, lines 2 to 5). Its entries are made four at a time, in their place where they are
+/// Writes row `r` of the matrix (Algorithm 32, lines 2 to 5). Its entries are made four at a time, in their place if they are
 /// a row, and else so that the next row's first ones may be in `ahead` then.
 pub(crate) fn write_next_row<const K: usize, const L: usize, G: Xof>(
     rho: &[u8; 32],

@@ -13,10 +13,10 @@ pub trait Residue: Copy {
     /// The meter, which counts the steps.
     type Meter;
 
-    /// The sum, where it fits `i32` in each lane.
+    /// The sum, which fits `i32` in each lane.
     fn add(self, other: Self, meter: &mut Self::Meter) -> Self;
 
-    /// The difference, where it fits `i32` in each lane.
+    /// The difference, which fits `i32` in each lane.
     fn sub(self, other: Self, meter: &mut Self::Meter) -> Self;
 
     /// The product with `zeta^BitRev8(m)` modulo `q`, below `q` in absolute value, for `m` below

@@ -132,7 +132,7 @@ where
         }
     }
 
-    /// Writes the signature of an input with the matrix that has these bytes, or returns `None` where a value is `q` or
+    /// Writes the signature of an input with the matrix that has these bytes, or returns `None` if a value is `q` or
     /// more.
     ///
     /// Not inlined, so that the matrix is in the stack only while the key signs.
