@@ -74,9 +74,7 @@ const ABOUT = {
     10: ["digest", ({ oid }) => `not ${FUNCTIONS.find(([, arc]) => arc === oid[oid.length - 1])[2]}`],
 };
 
-const UNSUPPORTED =
-    "this engine has no WebAssembly with bulk memory and sign extension: " +
-    "Chrome and Edge have it from 85, Firefox from 90, Safari from 15, Node from 16";
+const UNSUPPORTED = "this engine lacks BigInt, or the bulk memory or sign extension of WebAssembly: a newer one has them";
 
 /** A call that the library rejected. */
 export class MlDsaError extends Error {

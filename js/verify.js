@@ -164,8 +164,8 @@ async function takeThree(library, files) {
 function start() {
     if (!isSupported()) {
         show("unknown", "No answer", [
-            "This browser cannot run the check: its WebAssembly lacks bulk memory or sign extension. ",
-            "Chrome and Edge have them from version 85, Firefox from 90, Safari from 15. Nothing was checked.",
+            "This browser cannot run the check, because it lacks BigInt, or its WebAssembly bulk memory or sign ",
+            "extension. A newer one has them. Nothing was checked.",
         ]);
         for (const input of document.querySelectorAll("input")) {
             input.disabled = true;

@@ -652,7 +652,7 @@ test("where WebAssembly lacks something loading says so", async (t) => {
     assert.equal(isSupported(), true);
     t.mock.method(WebAssembly, "validate", () => false);
     assert.equal(isSupported(), false);
-    await assert.rejects(load(code), /no WebAssembly with bulk memory and sign extension/);
+    await assert.rejects(load(code), /lacks BigInt, or the bulk memory or sign extension of WebAssembly/);
 });
 
 test("isSupported asks for what the module needs", (t) => {
