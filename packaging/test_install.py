@@ -15,7 +15,7 @@ sys.dont_write_bytecode = True
 sys.path.insert(0, str(pathlib.Path(__file__).resolve().parent.parent / "scripts"))
 
 import testing
-from common import TOP, emulator, missing, printed, recorded_rows
+from common import RUST_ARM, TOP, emulator, missing, recorded_rows, rust_for_arm
 
 SHARED = "lib/libmldsa.so.0.2"
 EXAMPLES = {f"share/doc/mldsa/examples/{it.name}" for it in (TOP / "c/examples").glob("*.c")}
@@ -40,7 +40,6 @@ target_link_libraries(answers mldsa::mldsa)
 MLSIGN = """#!/bin/sh
 [ "$*" = "sign --help" ] && echo "  -k, --private <FILE>  the key" && echo "      --deterministic  without random bytes"
 """
-ARM = "aarch64-unknown-linux-gnu"
 # Recorded values of ML-DSA-65, with a context and a message.
 ROW = next(row for row in recorded_rows() if row[0] == "65" and row[3] and row[4] and len(row) == 8)
 
@@ -48,15 +47,6 @@ ROW = next(row for row in recorded_rows() if row[0] == "65" and row[3] and row[4
 def wants(*tools):
     """Of a test that is not run where a tool is missing."""
     return unittest.skipIf(missing(*tools), f"there is no {', '.join(missing(*tools))}")
-
-
-def rust_for_arm():
-    """The first folder of PATH with a cargo and a rustc that has a library for 64-bit ARM; none where there is none."""
-    for folder in os.environ["PATH"].split(os.pathsep):
-        place = printed(f"{folder}/rustc", "--print", "target-libdir", "--target", ARM)
-        if not missing("cargo", "rustc", path=folder) and any(pathlib.Path(place).glob("libcore-*")):
-            return folder
-    return None
 
 
 class Install(unittest.TestCase):
@@ -168,11 +158,11 @@ class Install(unittest.TestCase):
         """for another processor: 64-bit ARM, run by qemu"""
         rust = rust_for_arm()
         if not rust:
-            self.skipTest(f"no rustc has a library for {ARM}: `rustup target add {ARM}`")
+            self.skipTest(f"no rustc from 1.88 on has a library for {RUST_ARM}: `rustup target add {RUST_ARM}`")
         own = {"PATH": f"{rust}:{os.environ['PATH']}",
                "CARGO_TARGET_AARCH64_UNKNOWN_LINUX_GNU_LINKER": "aarch64-linux-gnu-gcc"}
-        self.make(f"LIBRARY={ARM}", environment=own)
-        self.make("install", f"LIBRARY={ARM}", f"PREFIX={self.prefix}")
+        self.make(f"LIBRARY={RUST_ARM}", environment=own)
+        self.make("install", f"LIBRARY={RUST_ARM}", f"PREFIX={self.prefix}")
         self.assertEqual(self.files(self.prefix), LIBRARY)
         flags = self.flags(self.prefix)
         for name, more in (("static", ["-static"]), ("shared", [f"-Wl,-rpath,{self.prefix}/lib"])):

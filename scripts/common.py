@@ -4,6 +4,7 @@ import hashlib
 import os
 import pathlib
 import platform
+import re
 import shutil
 import subprocess
 import sys
@@ -14,6 +15,8 @@ SETS = ("44", "65", "87")
 LENGTHS = {"44": (1312, 2560, 2420), "65": (1952, 4032, 3309), "87": (2592, 4896, 4627)}
 # The kind of processor that this machine has.
 NATIVE = "aarch64" if platform.machine() in ("aarch64", "arm64") else "x86-64"
+# Rust's name for 64-bit ARM with Linux.
+RUST_ARM = "aarch64-unknown-linux-gnu"
 # What C2SP publishes (CCTV, "accumulated"): the SHAKE128 of 100 public keys and signatures of each set. The seeds are
 # the output of SHAKE128 for no message; each key signs the empty message under the empty context with 32 bytes 00.
 ACCUMULATED = {
@@ -49,6 +52,18 @@ def printed(*words):
 def missing(*tools, path=None):
     """Those of the tools that are not there."""
     return [tool for tool in tools if not shutil.which(tool, path=path)]
+
+
+def rust_for_arm():
+    """The first folder of PATH with a cargo and a rustc from 1.88 on that has Rust's std for 64-bit ARM, or none."""
+    for folder in os.environ["PATH"].split(os.pathsep):
+        version = re.match(r"rustc 1\.(\d+)", printed(f"{folder}/rustc", "--version"))
+        if missing("cargo", "rustc", path=folder) or not version or int(version[1]) < 88:
+            continue
+        library = pathlib.Path(printed(f"{folder}/rustc", "--print", "target-libdir", "--target", RUST_ARM))
+        if any(library.glob("libstd-*.rlib")):
+            return folder
+    return None
 
 
 def need(names, what=""):
