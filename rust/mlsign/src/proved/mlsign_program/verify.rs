@@ -91,7 +91,9 @@ impl Ends {
 /// Whether the signatures of all messages are valid, or the sums of a signed list. Which are, and the fingerprints of the keys that accept
 /// them, goes to standard output unless the call says `--quiet`, and which are not to standard error.
 pub(crate) fn verify(rt: &HostRuntime, words: &ArgMatches<'_>) -> Result<bool, Error> {
-    let messages = words.get_strs("message").context("a word is missing")?;
+    let messages = words
+        .get_strs("message")
+        .context("the argument MESSAGE is missing")?;
     if messages.len() > 1 && words.get_str("signature").is_some() {
         bail!("--signature is for one message");
     }
@@ -119,7 +121,9 @@ fn keys_of<'a>(
     messages: &[&str],
 ) -> Result<Vec<TrustedKey<'a>>, Error> {
     let wanted = fingerprint(words)?;
-    let paths = words.get_strs("public").context("a word is missing")?;
+    let paths = words
+        .get_strs("public")
+        .context("the option --public is missing")?;
     let mut keys = Vec::new(rt.alloc());
     for (place, path) in paths.iter().enumerate() {
         for other in paths.iter().take(place) {
@@ -223,7 +227,7 @@ fn verify_message(
     if keys.len() > 1 && !metadata(rt, message).context(message)?.is_file() {
         return Err(about(
             message,
-            "it can be read only once, so it is verified by one public key",
+            "it can be read only once: give one public key",
         ));
     }
     let shown = has_several(words, "message");
@@ -326,11 +330,11 @@ pub(crate) fn say_invalid(
             let (wanted, set) = (key.set.signature_len(), name_of(key.set));
             let other = other_set(size);
             rt.eprintln(format_args!(
-                "mlsign: {front}the signature is invalid: it has not the {wanted} bytes of {set}{other}"
+                "mlsign: {front}the signature is invalid: it does not have the {wanted} bytes of {set}{other}"
             ))
         }
         [_] => rt.eprintln(format_args!(
-            "mlsign: {front}the signature is invalid: it, the message, the context or the key is another"
+            "mlsign: {front}the signature is invalid: it, the message, the context or the key is the wrong one"
         )),
         _ => rt.eprintln(format_args!(
             "mlsign: {front}the signature is invalid under each of the public keys"
