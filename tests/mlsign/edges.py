@@ -632,7 +632,8 @@ class LongNames(Edges):
         digits = hashlib.sha256(b"").hexdigest()
         self.path(DEEP).mkdir(parents=True)
         for text, reason in ((b"text", "it is no list of `sha256sum`"), (b"\xff", "the list is not UTF-8"),
-                             (f"{digits}  none".encode(), "no file of the list is there"),
+                             (f"{digits}  none\n".encode(), "no file of the list is there"),
+                             (f"{digits}  -\n".encode(), "it has the sum of standard input, which is no file"),
                              (b"x" * ((1 << 24) + 1), "it is too long for a list")):
             self.put(f"{DEEP}/list", text)
             self.done(f"sign -f -k private -o signature {DEEP}/list")
@@ -716,37 +717,133 @@ class Verified(Edges):
         self.assertEqual(self.done("public -k - -p -", read=private), public)
         self.assertEqual(self.done("convert --to der -o - -", read=private), der_of(private))
 
+    def listed(self, sums, call="--sums -p public"):
+        """Signs a list, and gives the words of a call that checks it, and what such a call first prints."""
+        self.put("SUMS", sums.encode() if isinstance(sums, str) else sums)
+        self.done("sign -k private SUMS")
+        return f"{call} SUMS", f"SUMS: valid\nkey: {self.key}\n"
+
+    def sums(self, *names):
+        """What `sha256sum` writes of these files."""
+        return subprocess.run(["sha256sum", *names], cwd=self.room, capture_output=True, check=True).stdout
+
     def test_a_signed_list_of_sums(self):
         files = {"a": b"a", "b": b"b", "c d": b"c", "e\nf\\g": b"escaped"}
         for name, bytes_ in files.items():
             self.put(name, bytes_)
-        sums = subprocess.run(["sha256sum", *files], cwd=self.room, capture_output=True, check=True).stdout
-        self.put("SUMS", sums)
-        self.done("sign -k private SUMS")
-        call, head = "--sums -p public", f"SUMS: valid\nkey: {self.key}\n"
+        sums = self.sums(*files)
+        call, head = self.listed(sums)
         every, rest = (head + "".join(f"{name}: OK\n" for name in names)
                        for names in (("a", "b", "c d", r"e\nf\g"), ("a", "c d", r"e\nf\g")))
-        self.ends(call, "SUMS", wrote=every)
-        self.ends("-q", call, "SUMS")
-        self.ends(call, "-s SUMS.sig -", wrote=every.replace("SUMS", "-", 1), read=sums)
+        self.ends(call, wrote=every)
+        self.ends("-q", call)
+        self.ends("--sums -p public -s SUMS.sig -", wrote=every.replace("SUMS", "-", 1), read=sums)
         os.remove(self.path("b"))
-        self.ends(call, "SUMS", status=2, wrote=rest,
+        self.ends(call, status=2, wrote=rest,
                   said="b: No such file or directory (os error 2)\n1 of 4 files could not be checked\n")
-        self.ends(call, "--ignore-missing SUMS", wrote=rest)
+        self.ends(call, "--ignore-missing", wrote=rest)
         self.put("b", b"another")
-        self.ends(call, "SUMS", status=1, wrote=rest, said="b: it is not the file of the list\n")
+        self.ends(call, status=1, wrote=rest, said="b: it is not the file of the list\n")
         for name in files:
             os.remove(self.path(name))
-        self.ends(call, "--ignore-missing SUMS", status=2, wrote=head, said="SUMS: no file of the list is there\n")
+        self.ends(call, "--ignore-missing", status=2, wrote=head, said="SUMS: no file of the list is there\n")
         self.put("SUMS", sums.replace(b"  a", b"  x"))
-        self.ends(call, "SUMS", status=1, said=f"SUMS: {self.INVALID}")
-        self.put("a", b"a")
+        self.ends(call, status=1, said=f"SUMS: {self.INVALID}")
+        self.ends(call, "a", status=1, said=f"SUMS: {self.INVALID}")
+
+    def test_a_changed_file_of_a_list(self):
+        """It is told with `--quiet` too: of a file that is read in two pieces, and of one whose name is escaped."""
+        files = {"large": bytes(100_000), "h\ri": b"content"}
+        for name, bytes_ in files.items():
+            self.put(name, bytes_)
+        large, other = (hashlib.sha256(bytes_).hexdigest() for bytes_ in files.values())
+        call, head = self.listed(f"{large}  large\n\\{other}  h\\ri\n")
+        self.ends(call, wrote=f"{head}large: OK\nh\\ri: OK\n")
+        self.ends(call, "h\ri", wrote=f"{head}h\\ri: OK\n")
+        self.ends(call, "-q")
+        for name, bytes_ in files.items():
+            escaped = name.replace("\r", "\\r")
+            rest, = (it.replace("\r", "\\r") for it in files if it != name)
+            changed = [bytes_ + b"\0", bytes_[:-1], b"", bytes_[:65536] + b"\0"]
+            for place in {0, 65535, 65536, len(bytes_) - 1}:
+                changed.append(bytes_[:place] + b"x" + bytes_[place + 1:])
+            for other in changed:
+                self.put(name, other)
+                said = f"{escaped}: it is not the file of the list\n"
+                self.ends(call, status=1, wrote=f"{head}{rest}: OK\n", said=said)
+                self.ends(call, "-q", status=1, said=said)
+                self.ends(call, "-q", name, status=1, said=said)
+                self.ends(call, name, status=1, wrote=head, said=said)
+            self.put(name, bytes_)
+
+    def test_a_folder_in_a_list(self):
+        os.mkdir(self.path("folder"))
+        digits = [hashlib.sha256(it).hexdigest() for it in (b"", b"a")]
+        call, head = self.listed(f"{digits[0]}  folder\n{digits[1]}  a\n")
+        said = "folder: Is a directory (os error 21)\n"
+        for words, wrote in (("", f"{head}a: OK\n"), (" -q", ""), (" --ignore-missing", f"{head}a: OK\n")):
+            self.ends(call + words, status=2, wrote=wrote, said=f"{said}1 of 2 files could not be checked\n")
+        self.ends(call, "folder", status=2, wrote=head, said=said)
+
+    def test_files_that_stand_behind_a_list(self):
+        """They have to be in it, by their names there, and no other file of it is looked at."""
+        call, head = self.listed(self.sums("a", "b", "c"))
+        os.remove(self.path("c"))
+        self.put("aa", b"a")
+        self.ends(call, "b a", wrote=f"{head}b: OK\na: OK\n")
+        self.ends(call, "-q b")
+        self.ends("--sums -p public -s SUMS.sig - a", read=self.read("SUMS"),
+                  wrote=f"-: valid\nkey: {self.key}\na: OK\n")
+        for name in ("aa", "A", "./a", f"{self.room}/a", "SUMS", "-", "none"):
+            said = f"{name}: it is not in the list\n"
+            self.ends(call, name, status=1, wrote=head, said=said)
+            self.ends(call, "-q", name, "a", status=1, said=said)
+            self.ends(call, "a", name, status=1, wrote=f"{head}a: OK\n", said=said)
+        self.ends(call, b"", b"new\nline", status=1, wrote=head,
+                  said=": it is not in the list\nnew\\nline: it is not in the list\n")
+        self.ends(call, "a c", status=2, wrote=f"{head}a: OK\n",
+                  said="c: No such file or directory (os error 2)\n1 of 2 files could not be checked\n")
+        self.ends(call, "c", status=2, wrote=head, said="c: No such file or directory (os error 2)\n")
+        self.put("b", b"another")
+        self.ends(call, "b a", status=1, wrote=f"{head}a: OK\n", said="b: it is not the file of the list\n")
+        self.ends(call, "a", wrote=f"{head}a: OK\n")
+
+    def test_a_name_that_is_twice_in_a_list(self):
+        """The file has to have both sums."""
+        one, other = (f"{hashlib.sha256(it).hexdigest()}  a\n" for it in (b"a", b"b"))
+        call, head = self.listed(one + one)
+        self.ends(call, "a", wrote=f"{head}a: OK\na: OK\n")
+        for sums in (one + other, other + one):
+            self.listed(sums)
+            for words in (call, f"{call} a"):
+                self.ends(words, "-q", status=1, said="a: it is not the file of the list\n")
+
+    def test_a_list_as_sha256sum_writes_it(self):
+        names = [" first", "*star", "\\front", "end\\", "tab\t", "\u00e9", "n\nn", "\\n", "-x", "last "]
+        for name in names:
+            self.put(name, name.encode())
+        for option in ("--text", "--binary"):
+            call, _ = self.listed(self.sums(option, "--", *names))
+            self.ends(call, "-q")
+            self.ends(call, "-q", *(name.encode() for name in names if name[0] != "-"))
+
+    def test_a_list_as_sha256sum_does_not_write_it(self):
         digits = hashlib.sha256(b"a").hexdigest()
-        for text in (f"{digits} a\n", f"{digits[:-1]}  a\n", f"{digits}  \n", "\n", f"{digits}  a\n\n",
-                     f"SHA256 (a) = {digits}\n", f"x{digits[1:]}  a\n"):
-            self.put("SUMS", text.encode())
-            self.done("sign -k private SUMS")
-            self.ends(call, "SUMS", status=2, wrote=head, said="SUMS: it is no list of `sha256sum`\n")
-        self.put("SUMS", f"{digits.upper()} *a\n".encode())
-        self.done("sign -k private SUMS")
-        self.ends(call, "SUMS", wrote=f"{head}a: OK\n")
+        line, escaped = f"{digits}  a\n", f"\\{digits}  a"
+        for name in ("a\r", "a\\", "a\\b", "a\\t"):
+            self.put(name, b"a")
+        for sums in ("", "\n", f"{line}\n", f"\n{line}", f"# files\n{line}", f"{digits}  a", f"{line}{digits}  a",
+                     f"{digits} a\n", f"{digits}  \n", f"{digits} *\n", f"{digits}\n", f"{digits}\t a\n", f" {line}",
+                     f"{digits[:-1]}  a\n", f"{digits}0  a\n", f"g{digits[1:]}  a\n", f"{digits.upper()}  a\n",
+                     f"SHA256 (a) = {digits}\n", f"{digits}  a\r\n", f"{digits}  a\0\n", f"{digits}  a\0{digits}  b\0",
+                     f"{digits}  a\\b\n", f"{digits}  a\\\\\n", f"{escaped}\n", f"{escaped}\\\n", f"{escaped}\\\\\\\n",
+                     f"{escaped}\\t\n", f"{escaped}\\nb\\x\n", f"{escaped}\r\\n\n", f"\\{escaped}\\\\\n",
+                     f"\\{digits}  \n", f"\\{line}{line}"):
+            call, head = self.listed(sums)
+            for words in (call, f"{call} a"):
+                self.ends(words, status=2, wrote=head, said="SUMS: it is no list of `sha256sum`\n")
+        for sums in (f"{digits}  -\n", f"{digits} *-\n", f"{line}{digits}  -\n"):
+            call, head = self.listed(sums)
+            for words in (call, f"{call} a", f"{call} -"):
+                self.ends(words, status=2, wrote=head, read=b"a",
+                          said="SUMS: it has the sum of standard input, which is no file\n")

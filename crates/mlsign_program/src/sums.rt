@@ -2,6 +2,7 @@
 #![tactic(auto)]
 
 use crate::commands::open;
+use crate::files::STANDARD;
 use crate::text::{about, printable};
 use crate::verify::{
     Ends, TrustedKey, accepts_list, read_signature, say_invalid, say_valid, tell_keys,
@@ -19,22 +20,27 @@ const LONGEST: usize = 16_777_216;
 /// How many bytes of a file are read at once.
 const PIECE: usize = 65536;
 
+/// What is said of a text that is none.
+const NO_LIST: &str = "it is no list of `sha256sum`";
+
 /// A line of a list.
 #[derive(Drop)]
 struct Sum<'a> {
-    /// The SHA-256 of the file, as 64 hexadecimal digits.
+    /// The SHA-256 of the file, as 64 hexadecimal digits in lower case.
     digits: &'a str,
     /// The file's name.
     name: String,
 }
 
-/// Whether one of the keys accepts the signature of a list, and each file of the list has its sum. The list is read once, so what was
-/// signed is what is looked at. No file is looked at if the list's signature is invalid.
+/// Whether one of the keys accepts the signature of a list, and these files have their sums in it, or all files of the
+/// list if the call names none. The list is read once, so what was signed is what is looked at. No file is looked at if
+/// the list's signature is invalid.
 pub(crate) fn verify_sums(
     rt: &HostRuntime,
     words: &ArgMatches<'_>,
     keys: &mut [TrustedKey<'_>],
     path: &str,
+    files: &[&str],
 ) -> Result<bool, Error> {
     let signature = read_signature(rt, words, path)?;
     let signature = signature.as_slice();
@@ -45,7 +51,12 @@ pub(crate) fn verify_sums(
             key.accept();
             say_valid(rt, words, key, path, true)?;
             tell_keys(rt, words, keys)?;
-            return check_files(rt, words, path, list);
+            let sums = read_sums(rt.alloc(), path, list)?;
+            let sums = sums.as_slice();
+            if files.is_empty() {
+                return check_all(rt, words, path, sums);
+            }
+            return check_named(rt, words, sums, files);
         }
     }
     say_invalid(rt, keys, path, true, signature.len())?;
@@ -64,19 +75,15 @@ fn read_list(rt: &HostRuntime, words: &ArgMatches<'_>, path: &str) -> Result<Vec
 }
 
 /// Whether each file of a list has its sum. Each has a line.
-fn check_files(
+fn check_all(
     rt: &HostRuntime,
     words: &ArgMatches<'_>,
     path: &str,
-    list: &[u8],
+    sums: &[Sum<'_>],
 ) -> Result<bool, Error> {
-    let Ok(text) = str::from_utf8(list) else {
-        return Err(about(path, "the list is not UTF-8"));
-    };
-    let sums = sums_of(rt.alloc(), path, text)?;
     let mut ends = Ends::new(sums.len());
     let mut found = 0usize;
-    for sum in &sums {
+    for sum in sums {
         let end = check_file(rt, sum);
         if words.get_flag("ignore-missing") && is_missing(&end) {
             continue;
@@ -91,19 +98,69 @@ fn check_files(
     ends.worst()
 }
 
-/// The sums of a list. Every line has one.
-fn sums_of<'a>(alloc: Global, path: &str, text: &'a str) -> Result<Vec<Sum<'a>>, Error> {
+/// Whether each of these files is in the list, and has its sum. Each has a line.
+fn check_named(
+    rt: &HostRuntime,
+    words: &ArgMatches<'_>,
+    sums: &[Sum<'_>],
+    files: &[&str],
+) -> Result<bool, Error> {
+    let mut ends = Ends::new(files.len());
+    for file in files {
+        let end = check_listed(rt, words, sums, file);
+        ends.count(rt, end)?;
+    }
+    ends.worst()
+}
+
+/// Whether a list has this name, and the file each sum of it.
+fn check_listed(
+    rt: &HostRuntime,
+    words: &ArgMatches<'_>,
+    sums: &[Sum<'_>],
+    file: &str,
+) -> Result<bool, Error> {
+    let mut is_listed = false;
+    for sum in sums {
+        if sum.name.as_str() != file {
+            continue;
+        }
+        is_listed = true;
+        let end = check_file(rt, sum);
+        if !tell(rt, words, sum, end)? {
+            return Ok(false);
+        }
+    }
+    if !is_listed {
+        let name = printable(rt.alloc(), file).map_err(io::Error::from)?;
+        let _ = rt.eprintln(format_args!("mlsign: {name}: it is not in the list"));
+    }
+    Ok(is_listed)
+}
+
+/// The sums of a list. Each line has one, as `sha256sum` writes it.
+fn read_sums<'a>(alloc: Global, path: &str, list: &'a [u8]) -> Result<Vec<Sum<'a>>, Error> {
+    let Ok(text) = str::from_utf8(list) else {
+        return Err(about(path, "the list is not UTF-8"));
+    };
+    let Some(lines) = text.strip_suffix('\n') else {
+        return Err(about(path, NO_LIST));
+    };
     let mut sums = Vec::new(alloc);
-    for line in text.lines() {
+    for line in lines.split('\n') {
         let Some(sum) = sum_of(alloc, line)? else {
-            return Err(about(path, "it is no list of `sha256sum`"));
+            return Err(about(path, NO_LIST));
         };
+        if sum.name.as_str() == STANDARD {
+            return Err(about(path, "it has the sum of standard input, which is no file"));
+        }
         sums.push(sum).map_err(io::Error::from)?;
     }
     Ok(sums)
 }
 
-/// The sum of a line: 64 hexadecimal digits, a blank, a blank or a star, and the file's name, which is escaped if a backslash comes first.
+/// The sum of a line, if `sha256sum` writes such a line: a backslash if the name is escaped, 64 digits, a blank, a blank
+/// or a star, and the file's name.
 fn sum_of<'a>(alloc: Global, line: &'a str) -> Result<Option<Sum<'a>>, Error> {
     let (escaped, line) = match line.strip_prefix('\\') {
         Some(line) => (true, line),
@@ -112,63 +169,77 @@ fn sum_of<'a>(alloc: Global, line: &'a str) -> Result<Option<Sum<'a>>, Error> {
     let Some((digits, rest)) = line.split_once(' ') else {
         return Ok(None);
     };
-    let Some(name) = rest.strip_prefix(' ').or(rest.strip_prefix('*')) else {
+    let Some(written) = rest.strip_prefix(' ').or(rest.strip_prefix('*')) else {
         return Ok(None);
     };
-    let hex = digits.bytes().all(|digit| digit.is_ascii_hexdigit());
-    if digits.len() != 64 || !hex || name.is_empty() {
+    let are_digits = digits
+        .bytes()
+        .all(|digit| matches!(digit, b'0'..=b'9' | b'a'..=b'f'));
+    if digits.len() != 64 || !are_digits {
         return Ok(None);
     }
-    let name = if escaped {
-        unescaped(alloc, name)
-    } else {
-        String::from_str(alloc, name)
-    };
-    Ok(Some(Sum {
-        digits,
-        name: name.map_err(io::Error::from)?,
-    }))
+    let name = plain_name(alloc, escaped, written).map_err(io::Error::from)?;
+    Ok(name.map(|name| Sum { digits, name }))
 }
 
-/// A name without its escapes: `\n`, `\r` and `\\`.
-fn unescaped(alloc: Global, name: &str) -> Result<String, std::alloc::AllocError> {
-    let mut plain = String::new(alloc);
+/// The name that `sha256sum` writes so, if it writes any so. It is escaped if and only if the name has a backslash, LF or
+/// CR, for which `\\`, `\n` or `\r` stands.
+fn plain_name(
+    alloc: Global,
+    escaped: bool,
+    written: &str,
+) -> Result<Option<String>, std::alloc::AllocError> {
+    let mut name = String::new(alloc);
     let mut is_escape = false;
-    for character in name.chars() {
-        if !is_escape && character == '\\' {
+    let mut has_escape = false;
+    for character in written.chars() {
+        if is_escape {
+            is_escape = false;
+            name.push(match character {
+                '\\' => '\\',
+                'n' => '\n',
+                'r' => '\r',
+                _ => return Ok(None),
+            })?;
+        } else if character == '\\' {
             is_escape = true;
-            continue;
+            has_escape = true;
+        } else if matches!(character, '\r' | '\0') {
+            return Ok(None);
+        } else {
+            name.push(character)?;
         }
-        plain.push(match character {
-            'n' if is_escape => '\n',
-            'r' if is_escape => '\r',
-            other => other,
-        })?;
-        is_escape = false;
     }
-    Ok(plain)
+    if is_escape || has_escape != escaped || name.is_empty() {
+        return Ok(None);
+    }
+    Ok(Some(name))
 }
 
 /// Whether a file has its sum.
 fn check_file(rt: &HostRuntime, sum: &Sum<'_>) -> io::Result<bool> {
-    let digest = digest_of(rt, sum.name.as_str())?;
-    let digits = hex::encode(rt.alloc(), &digest)?;
-    Ok(digits.as_str().eq_ignore_ascii_case(sum.digits))
+    let file = File::open(rt, sum.name.as_str())?;
+    has_sum(rt.alloc(), file, sum.digits)
 }
 
-/// The SHA-256 of a file.
-fn digest_of(rt: &HostRuntime, path: &str) -> io::Result<[u8; 32]> {
-    let mut file = File::open(rt, path)?;
+/// Whether these digits are the SHA-256 of all that a reader gives.
+fn has_sum<R: Read>(alloc: Global, reader: R, digits: &str) -> io::Result<bool> {
+    let digest = digest_of(reader)?;
+    Ok(hex::encode(alloc, &digest)?.as_str() == digits)
+}
+
+/// The SHA-256 of all that a reader gives.
+fn digest_of<R: Read>(mut reader: R) -> io::Result<[u8; 32]> {
     let mut hasher = Sha256::new();
     let mut piece = [0; PIECE];
     for _count in 0..u64::MAX {
-        let count = file.read(&mut piece)?;
+        let count = reader.read(&mut piece)?;
         if count == 0 {
-            break;
+            return Ok(hasher.finalize());
         }
         hasher.update(&piece[..count]);
     }
-    Ok(hasher.finalize())
+    Err(io::Error::from(ErrorKind::FileTooLarge))
 }
 
 /// Whether a file is not there.

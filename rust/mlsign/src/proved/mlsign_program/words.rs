@@ -65,7 +65,7 @@ fn verify<'a>(alloc: Global) -> Result<Command<'a>, AllocError> {
     let public = arg!(in alloc; -p --public <FILE> "The public key; repeatable: any may match");
     let fingerprint =
         arg!(in alloc; --fingerprint <TEXT> "Take only a public key with this fingerprint");
-    let sums = arg!(in alloc; --sums "The message is a list of sha256sum, whose files are checked");
+    let sums = arg!(in alloc; --sums "The first message is a list of sha256sum: check the others by it, or all in it");
     let missing = arg!(in alloc; --"ignore-missing" "Leave out files of the list that are missing");
     Command::new(alloc, "verify")
         .about("Verifies signatures of messages")
