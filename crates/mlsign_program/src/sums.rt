@@ -1,6 +1,11 @@
 //! Lists of sums, as `sha256sum` writes them.
 #![tactic(auto)]
 
+ghost use Rattle.std.specs.Prelude.{◌≡◌, ◌↔◌, ℕ, List, [], ◌∷◌, ◌++◌, IfOk, IfSome, IsTrue, true, codes, All, string_bytes};
+ghost use Rattle.sha2.specs.Sha256.{sha256};
+ghost use Rattle.mlsign_program.specs.Outputs.{LacksFlag};
+ghost use Rattle.mlsign_program.specs.Sums.{AreFilesGood, GaveAll, HasFound, IsLineOf, IsListOf, IsListed, IsSumOf, IsWritten, escape_front, is_escaped, written};
+
 use crate::commands::open;
 use crate::files::STANDARD;
 use crate::text::{about, printable};
@@ -20,9 +25,6 @@ const LONGEST: usize = 16_777_216;
 /// How many bytes of a file are read at once.
 const PIECE: usize = 65536;
 
-/// What is said of a text that is none.
-const NO_LIST: &str = "it is no list of `sha256sum`";
-
 /// A line of a list.
 #[derive(Drop)]
 struct Sum<'a> {
@@ -41,7 +43,9 @@ pub(crate) fn verify_sums(
     keys: &mut [TrustedKey<'_>],
     path: &str,
     files: &[&str],
-) -> Result<bool, Error> {
+) -> Result<bool, Error>
+    ensures { IfOk result (λ good. good ≡ true → AreFilesGood words.now keys.old files.now) }
+{
     let signature = read_signature(rt, words, path)?;
     let signature = signature.as_slice();
     let list = read_list(rt, words, path)?;
@@ -80,7 +84,9 @@ fn check_all(
     words: &ArgMatches<'_>,
     path: &str,
     sums: &[Sum<'_>],
-) -> Result<bool, Error> {
+) -> Result<bool, Error>
+    ensures { LacksFlag words.now (codes "ignore-missing") → IfOk result (λ good. good ≡ true → All HasFound sums.now) }
+{
     let mut ends = Ends::new(sums.len());
     let mut found = 0usize;
     for sum in sums {
@@ -104,7 +110,9 @@ fn check_named(
     words: &ArgMatches<'_>,
     sums: &[Sum<'_>],
     files: &[&str],
-) -> Result<bool, Error> {
+) -> Result<bool, Error>
+    ensures { IfOk result (λ good. good ≡ true → All (λ file. IsListed sums.now file.now) files.now) }
+{
     let mut ends = Ends::new(files.len());
     for file in files {
         let end = check_listed(rt, words, sums, file);
@@ -119,7 +127,9 @@ fn check_listed(
     words: &ArgMatches<'_>,
     sums: &[Sum<'_>],
     file: &str,
-) -> Result<bool, Error> {
+) -> Result<bool, Error>
+    ensures { IfOk result (λ good. good ≡ true → IsListed sums.now file.now) }
+{
     let mut is_listed = false;
     for sum in sums {
         if sum.name.as_str() != file {
@@ -138,35 +148,50 @@ fn check_listed(
     Ok(is_listed)
 }
 
-/// The sums of a list. Each line has one, as `sha256sum` writes it.
-fn read_sums<'a>(alloc: Global, path: &str, list: &'a [u8]) -> Result<Vec<Sum<'a>>, Error> {
+/// The sums of a list.
+fn read_sums<'a>(alloc: Global, path: &str, list: &'a [u8]) -> Result<Vec<Sum<'a>>, Error>
+    ensures { IfOk result (λ sums. IsListOf list.now sums.items) }
+{
     let Ok(text) = str::from_utf8(list) else {
         return Err(about(path, "the list is not UTF-8"));
     };
-    let Some(lines) = text.strip_suffix('\n') else {
-        return Err(about(path, NO_LIST));
+    let Some(sums) = sums_of(alloc, text)? else {
+        return Err(about(path, "it is no list of `sha256sum`"));
     };
-    let mut sums = Vec::new(alloc);
-    for line in lines.split('\n') {
-        let Some(sum) = sum_of(alloc, line)? else {
-            return Err(about(path, NO_LIST));
-        };
+    for sum in &sums {
         if sum.name.as_str() == STANDARD {
             return Err(about(path, "it has the sum of standard input, which is no file"));
         }
-        sums.push(sum).map_err(io::Error::from)?;
     }
     Ok(sums)
 }
 
+/// The sums of a text, if it is the lines that `sha256sum` writes for these, each with LF at its end.
+fn sums_of<'a>(alloc: Global, text: &'a str) -> io::Result<Option<Vec<Sum<'a>>>>
+    ensures { IfOk result (λ sums. IfSome sums (λ sums. IsListOf text.now sums.items)) }
+{
+    let mut sums = Vec::new(alloc);
+    let mut rest = text;
+    while let Some((line, after)) = rest.split_once('\n') {
+        let Some(sum) = sum_of(alloc, line)? else {
+            return Ok(None);
+        };
+        sums.push(sum)?;
+        rest = after;
+    }
+    if !rest.is_empty() || sums.is_empty() {
+        return Ok(None);
+    }
+    Ok(Some(sums))
+}
+
 /// The sum of a line, if `sha256sum` writes such a line: a backslash if the name is escaped, 64 digits, a blank, a blank
 /// or a star, and the file's name.
-fn sum_of<'a>(alloc: Global, line: &'a str) -> Result<Option<Sum<'a>>, Error> {
-    let (escaped, line) = match line.strip_prefix('\\') {
-        Some(line) => (true, line),
-        None => (false, line),
-    };
-    let Some((digits, rest)) = line.split_once(' ') else {
+fn sum_of<'a>(alloc: Global, line: &'a str) -> io::Result<Option<Sum<'a>>>
+    ensures { IfOk result (λ sum. IfSome sum (λ sum. IsLineOf line.now sum.digits.now (string_bytes sum.name))) }
+{
+    let (escaped, rest) = behind_backslash(line);
+    let Some((digits, rest)) = rest.split_once(' ') else {
         return Ok(None);
     };
     let Some(written) = rest.strip_prefix(' ').or(rest.strip_prefix('*')) else {
@@ -178,37 +203,45 @@ fn sum_of<'a>(alloc: Global, line: &'a str) -> Result<Option<Sum<'a>>, Error> {
     if digits.len() != 64 || !are_digits {
         return Ok(None);
     }
-    let name = plain_name(alloc, escaped, written).map_err(io::Error::from)?;
-    Ok(name.map(|name| Sum { digits, name }))
+    match plain_name(alloc, escaped, written)? {
+        Some(name) => Ok(Some(Sum { digits, name })),
+        None => Ok(None),
+    }
+}
+
+/// Whether a line begins with a backslash, and what stands behind it.
+fn behind_backslash(line: &str) -> (bool, &str)
+    ensures { line.now ≡ escape_front result.0 ++ result.1.now }
+{
+    match line.strip_prefix('\\') {
+        Some(rest) => (true, rest),
+        None => (false, line),
+    }
 }
 
 /// The name that `sha256sum` writes so, if it writes any so. It is escaped if and only if the name has a backslash, LF or
-/// CR, for which `\\`, `\n` or `\r` stands.
+/// CR.
 fn plain_name(
     alloc: Global,
     escaped: bool,
     written: &str,
-) -> Result<Option<String>, std::alloc::AllocError> {
+) -> Result<Option<String>, std::alloc::AllocError>
+    ensures { IfOk result (λ name. IfSome name (λ name. IsWritten escaped written.now (string_bytes name))) }
+{
     let mut name = String::new(alloc);
     let mut is_escape = false;
     let mut has_escape = false;
     for character in written.chars() {
-        if is_escape {
-            is_escape = false;
-            name.push(match character {
-                '\\' => '\\',
-                'n' => '\n',
-                'r' => '\r',
-                _ => return Ok(None),
-            })?;
-        } else if character == '\\' {
+        if !is_escape && character == '\\' {
             is_escape = true;
             has_escape = true;
-        } else if matches!(character, '\r' | '\0') {
-            return Ok(None);
-        } else {
-            name.push(character)?;
+            continue;
         }
+        let Some(plain) = plain_character(is_escape, character) else {
+            return Ok(None);
+        };
+        name.push(plain)?;
+        is_escape = false;
     }
     if is_escape || has_escape != escaped || name.is_empty() {
         return Ok(None);
@@ -216,20 +249,47 @@ fn plain_name(
     Ok(Some(name))
 }
 
+/// The character of a name that is written so, behind a backslash or not, if any is.
+fn plain_character(is_escape: bool, character: char) -> Option<char>
+    ensures { IfSome result (λ plain. (is_escape ≡ is_escaped plain)
+        × (written plain ≡ escape_front is_escape ++ character ∷ [])) }
+{
+    if is_escape {
+        match character {
+            '\\' => Some('\\'),
+            'n' => Some('\n'),
+            'r' => Some('\r'),
+            _ => None,
+        }
+    } else if matches!(character, '\\' | '\n' | '\r' | '\0') {
+        None
+    } else {
+        Some(character)
+    }
+}
+
 /// Whether a file has its sum.
-fn check_file(rt: &HostRuntime, sum: &Sum<'_>) -> io::Result<bool> {
-    let file = File::open(rt, sum.name.as_str())?;
-    has_sum(rt.alloc(), file, sum.digits)
+fn check_file(rt: &HostRuntime, sum: &Sum<'_>) -> io::Result<bool>
+    ensures { IfOk result (λ has. (bytes : List ℕ) × (IsTrue has ↔ IsSumOf sum.now.digits.now bytes)) }
+{
+    let mut file = File::open(rt, sum.name.as_str())?;
+    has_sum(rt.alloc(), &mut file, sum.digits)
 }
 
 /// Whether these digits are the SHA-256 of all that a reader gives.
-fn has_sum<R: Read>(alloc: Global, reader: R, digits: &str) -> io::Result<bool> {
+fn has_sum<R: Read>(alloc: Global, reader: &mut R, digits: &str) -> io::Result<bool>
+    ensures { IfOk result (λ has. (bytes : List ℕ) × GaveAll (R.remaining reader.old) (R.remaining reader.new) bytes
+        × (IsTrue has ↔ IsSumOf digits.now bytes)) }
+{
     let digest = digest_of(reader)?;
     Ok(hex::encode(alloc, &digest)?.as_str() == digits)
 }
 
 /// The SHA-256 of all that a reader gives.
-fn digest_of<R: Read>(mut reader: R) -> io::Result<[u8; 32]> {
+fn digest_of<R: Read>(reader: &mut R) -> io::Result<[u8; 32]>
+    ensures { IfOk result (λ digest. (bytes : List ℕ) × GaveAll (R.remaining reader.old) (R.remaining reader.new) bytes
+        × (digest ≡ sha256 bytes)) }
+{
     let mut hasher = Sha256::new();
     let mut piece = [0; PIECE];
     for _count in 0..u64::MAX {
@@ -256,7 +316,9 @@ fn tell(
     words: &ArgMatches<'_>,
     sum: &Sum<'_>,
     end: io::Result<bool>,
-) -> Result<bool, Error> {
+) -> Result<bool, Error>
+    ensures { IfOk result (λ has. end ≡ Ok has) }
+{
     let has = end.context(sum.name.as_str())?;
     let name = printable(rt.alloc(), sum.name.as_str()).map_err(io::Error::from)?;
     if !has {

@@ -1,11 +1,12 @@
 //! Verifying messages.
 #![tactic(auto)]
 
-ghost use Rattle.std.specs.Prelude.{◌≡◌, ℕ, List, IfOk};
+ghost use Rattle.std.specs.Prelude.{◌≡◌, ◌↔◌, ℕ, List, IfOk, IsTrue, OnOk, true};
 ghost use Rattle.mlsign_engine.specs.Commands.{Judges};
 ghost use Rattle.mlsign_engine.specs.Forms.{HasPublic};
 ghost use Rattle.mlsign_engine.specs.Messages.{GivesAll};
 ghost use Rattle.mlsign_program.specs.Outputs.{context_of};
+ghost use Rattle.mlsign_program.specs.Sums.{AreAllGood};
 
 use crate::commands::{
     Message, check_apart, context, fingerprint_of, has_several, name_of, open, signature_path,
@@ -56,7 +57,9 @@ pub(crate) struct Ends {
 
 impl Ends {
     /// None is looked at yet.
-    pub(crate) fn new(all: usize) -> Ends {
+    pub(crate) fn new(all: usize) -> Ends
+        ensures { AreAllGood result }
+    {
         Ends {
             all,
             invalid: 0,
@@ -65,11 +68,9 @@ impl Ends {
     }
 
     /// Counts an end. An error ends the call if there is one message, and else has a line.
-    pub(crate) fn count(
-        &mut self,
-        rt: &HostRuntime,
-        end: Result<bool, Error>,
-    ) -> Result<(), Error> {
+    pub(crate) fn count(&mut self, rt: &HostRuntime, end: Result<bool, Error>) -> Result<(), Error>
+        ensures { OnOk result (AreAllGood self.new ↔ (AreAllGood self.old × (end ≡ Ok true))) }
+    {
         match end {
             Ok(true) => {}
             Ok(false) => self.invalid = self.invalid.saturating_add(1),
@@ -84,7 +85,9 @@ impl Ends {
     }
 
     /// The worst end.
-    pub(crate) fn worst(&self) -> Result<bool, Error> {
+    pub(crate) fn worst(&self) -> Result<bool, Error>
+        ensures { IfOk result (λ good. IsTrue good ↔ AreAllGood self.now) }
+    {
         if self.failed > 0 {
             let (failed, all) = (self.failed, self.all);
             bail!("{failed} of {all} files could not be checked");

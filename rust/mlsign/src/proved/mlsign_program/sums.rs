@@ -22,9 +22,6 @@ const LONGEST: usize = 16_777_216;
 /// How many bytes of a file are read at once.
 const PIECE: usize = 65536;
 
-/// What is said of a text that is none.
-const NO_LIST: &str = "it is no list of `sha256sum`";
-
 /// A line of a list.
 struct Sum<'a> {
     /// The SHA-256 of the file, as 64 hexadecimal digits in lower case.
@@ -139,38 +136,47 @@ fn check_listed(
     Ok(is_listed)
 }
 
-/// The sums of a list. Each line has one, as `sha256sum` writes it.
+/// The sums of a list.
 fn read_sums<'a>(alloc: Global, path: &str, list: &'a [u8]) -> Result<Vec<Sum<'a>>, Error> {
     let Ok(text) = str::from_utf8(list) else {
         return Err(about(path, "the list is not UTF-8"));
     };
-    let Some(lines) = text.strip_suffix('\n') else {
-        return Err(about(path, NO_LIST));
+    let Some(sums) = sums_of(alloc, text)? else {
+        return Err(about(path, "it is no list of `sha256sum`"));
     };
-    let mut sums = Vec::new(alloc);
-    for line in lines.split('\n') {
-        let Some(sum) = sum_of(alloc, line)? else {
-            return Err(about(path, NO_LIST));
-        };
+    for sum in &sums {
         if sum.name.as_str() == STANDARD {
             return Err(about(
                 path,
                 "it has the sum of standard input, which is no file",
             ));
         }
-        sums.push(sum).map_err(io::Error::from)?;
     }
     Ok(sums)
 }
 
+/// The sums of a text, if it is the lines that `sha256sum` writes for these, each with LF at its end.
+fn sums_of<'a>(alloc: Global, text: &'a str) -> io::Result<Option<Vec<Sum<'a>>>> {
+    let mut sums = Vec::new(alloc);
+    let mut rest = text;
+    while let Some((line, after)) = rest.split_once('\n') {
+        let Some(sum) = sum_of(alloc, line)? else {
+            return Ok(None);
+        };
+        sums.push(sum)?;
+        rest = after;
+    }
+    if !rest.is_empty() || sums.is_empty() {
+        return Ok(None);
+    }
+    Ok(Some(sums))
+}
+
 /// The sum of a line, if `sha256sum` writes such a line: a backslash if the name is escaped, 64 digits, a blank, a blank
 /// or a star, and the file's name.
-fn sum_of<'a>(alloc: Global, line: &'a str) -> Result<Option<Sum<'a>>, Error> {
-    let (escaped, line) = match line.strip_prefix('\\') {
-        Some(line) => (true, line),
-        None => (false, line),
-    };
-    let Some((digits, rest)) = line.split_once(' ') else {
+fn sum_of<'a>(alloc: Global, line: &'a str) -> io::Result<Option<Sum<'a>>> {
+    let (escaped, rest) = behind_backslash(line);
+    let Some((digits, rest)) = rest.split_once(' ') else {
         return Ok(None);
     };
     let Some(written) = rest.strip_prefix(' ').or(rest.strip_prefix('*')) else {
@@ -182,12 +188,22 @@ fn sum_of<'a>(alloc: Global, line: &'a str) -> Result<Option<Sum<'a>>, Error> {
     if digits.len() != 64 || !are_digits {
         return Ok(None);
     }
-    let name = plain_name(alloc, escaped, written).map_err(io::Error::from)?;
-    Ok(name.map(|name| Sum { digits, name }))
+    match plain_name(alloc, escaped, written)? {
+        Some(name) => Ok(Some(Sum { digits, name })),
+        None => Ok(None),
+    }
+}
+
+/// Whether a line begins with a backslash, and what stands behind it.
+fn behind_backslash(line: &str) -> (bool, &str) {
+    match line.strip_prefix('\\') {
+        Some(rest) => (true, rest),
+        None => (false, line),
+    }
 }
 
 /// The name that `sha256sum` writes so, if it writes any so. It is escaped if and only if the name has a backslash, LF or
-/// CR, for which `\\`, `\n` or `\r` stands.
+/// CR.
 fn plain_name(
     alloc: Global,
     escaped: bool,
@@ -197,22 +213,16 @@ fn plain_name(
     let mut is_escape = false;
     let mut has_escape = false;
     for character in written.chars() {
-        if is_escape {
-            is_escape = false;
-            name.push(match character {
-                '\\' => '\\',
-                'n' => '\n',
-                'r' => '\r',
-                _ => return Ok(None),
-            })?;
-        } else if character == '\\' {
+        if !is_escape && character == '\\' {
             is_escape = true;
             has_escape = true;
-        } else if matches!(character, '\r' | '\0') {
-            return Ok(None);
-        } else {
-            name.push(character)?;
+            continue;
         }
+        let Some(plain) = plain_character(is_escape, character) else {
+            return Ok(None);
+        };
+        name.push(plain)?;
+        is_escape = false;
     }
     if is_escape || has_escape != escaped || name.is_empty() {
         return Ok(None);
@@ -220,20 +230,36 @@ fn plain_name(
     Ok(Some(name))
 }
 
+/// The character of a name that is written so, behind a backslash or not, if any is.
+fn plain_character(is_escape: bool, character: char) -> Option<char> {
+    if is_escape {
+        match character {
+            '\\' => Some('\\'),
+            'n' => Some('\n'),
+            'r' => Some('\r'),
+            _ => None,
+        }
+    } else if matches!(character, '\\' | '\n' | '\r' | '\0') {
+        None
+    } else {
+        Some(character)
+    }
+}
+
 /// Whether a file has its sum.
 fn check_file(rt: &HostRuntime, sum: &Sum<'_>) -> io::Result<bool> {
-    let file = File::open(sum.name.as_str())?;
-    has_sum(rt.alloc(), file, sum.digits)
+    let mut file = File::open(sum.name.as_str())?;
+    has_sum(rt.alloc(), &mut file, sum.digits)
 }
 
 /// Whether these digits are the SHA-256 of all that a reader gives.
-fn has_sum<R: Read>(alloc: Global, reader: R, digits: &str) -> io::Result<bool> {
+fn has_sum<R: Read>(alloc: Global, reader: &mut R, digits: &str) -> io::Result<bool> {
     let digest = digest_of(reader)?;
     Ok(hex::encode(alloc, &digest)?.as_str() == digits)
 }
 
 /// The SHA-256 of all that a reader gives.
-fn digest_of<R: Read>(mut reader: R) -> io::Result<[u8; 32]> {
+fn digest_of<R: Read>(reader: &mut R) -> io::Result<[u8; 32]> {
     let mut hasher = Sha256::new();
     let mut piece = [0; PIECE];
     for _count in 0..u64::MAX {
