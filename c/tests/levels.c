@@ -1,8 +1,9 @@
-/* Each call at both levels of x86-64: equal results, and equal bytes in every array afterwards.
+/* Each call at the levels of x86-64, 2 and 3 and with -DLOWEST=1 also 1: equal results, and equal bytes in every array
+ * afterwards.
  *
  *   levels SET COUNT        so many cases of a set, 44, 65 or 87; each call with an array also with something changed, and each
  *                           of these has to be done, or yes, at least once
- *   levels SET COUNT LEVEL  the calls at one level alone, 2 or 3
+ *   levels SET COUNT LEVEL  the calls at one level alone
  *   levels                  prints the level of this processor, after a call
  *
  * cases.h, which c/test makes of mldsa.h, has each array that a call takes, and each call. A case fills the arrays with random
@@ -10,14 +11,21 @@
 #include "arrays.h"
 #include "mldsa_x86_64.h"
 
-/* What a case has in its arrays. */
-static struct array first[ARRAYS], second[ARRAYS], first_changed[ARRAYS], second_changed[ARRAYS];
+#ifndef LOWEST
+#define LOWEST 2
+#endif
+#define HIGHEST 3
+#define LEVELS (HIGHEST + 1 - LOWEST)
 
-static void make_room(struct array *pool)
+/* What a case has in its arrays at each level, the lowest first, and what it has in them changed. */
+static struct array plain[LEVELS][ARRAYS], changed[LEVELS][ARRAYS];
+
+static void make_room(struct array pools[LEVELS][ARRAYS])
 {
-    for (int i = 0; i < ARRAYS; i++)
-        if (!(pool[i].at = calloc(1, KINDS[i].room)))
-            exit(2);
+    for (int k = 0; k < LEVELS; k++)
+        for (int i = 0; i < ARRAYS; i++)
+            if (!(pools[k][i].at = calloc(1, KINDS[i].room)))
+                exit(2);
 }
 
 static void copy(struct array *to, const struct array *from)
@@ -40,38 +48,37 @@ static void fill(struct array *pool, int which)
 }
 
 /* Makes an array that the call takes a byte longer or shorter, or changes a bit of it. */
-static void change(struct array *one, struct array *other, const struct export *call)
+static void change(struct array pools[LEVELS][ARRAYS], const struct export *call)
 {
     int i = call->arrays[draw() % (uint64_t)call->count];
     uint64_t how = draw() % 4;
-    size_t bit = one[i].len ? draw() % (8 * one[i].len) : 0;
-    if (how < 2)
-        other[i].len = one[i].len = how == 0 || !one[i].len ? one[i].len + 1 : one[i].len - 1;
-    else
-        other[i].at[bit / 8] = one[i].at[bit / 8] ^= (uint8_t)(1 << bit % 8);
+    size_t len = pools[0][i].len, bit = len ? draw() % (8 * len) : 0;
+    for (int k = 0; k < LEVELS; k++)
+        if (how < 2)
+            pools[k][i].len = how == 0 || !len ? len + 1 : len - 1;
+        else
+            pools[k][i].at[bit / 8] ^= (uint8_t)(1 << bit % 8);
 }
 
-/* Makes the call at both levels, or at one, and gives its result. */
-static uint32_t call_at(int level, const struct export *call, struct array *one, struct array *other, const char *how)
+/* Makes the call at each level, or at one, and gives its result. */
+static uint32_t call_at(int level, const struct export *call, struct array pools[LEVELS][ARRAYS], const char *how)
 {
     uint32_t answer, another, number = (uint32_t)(draw() % 32);
-    if (level) {
-        WANT(mldsa_x86_64_level(level), level);
-        return call->call(one, number);
-    }
-    WANT(mldsa_x86_64_level(2), 2);
-    answer = call->call(one, number);
-    WANT(mldsa_x86_64_level(3), 3);
-    another = call->call(other, number);
-    if (answer != another) {
-        printf("%s%s: %u at level 2, %u at level 3\n", call->name, how, answer, another);
-        failures++;
-    }
-    for (int i = 0; i < ARRAYS; i++)
-        if (memcmp(one[i].at, other[i].at, KINDS[i].room)) {
-            printf("%s%s: %s differs\n", call->name, how, KINDS[i].name);
+    WANT(mldsa_x86_64_level(level ? level : LOWEST), level ? level : LOWEST);
+    answer = call->call(pools[0], number);
+    for (int k = 1; k < LEVELS && !level; k++) {
+        WANT(mldsa_x86_64_level(LOWEST + k), LOWEST + k);
+        another = call->call(pools[k], number);
+        if (answer != another) {
+            printf("%s%s: %u at level %d, %u at level %d\n", call->name, how, answer, LOWEST, another, LOWEST + k);
             failures++;
         }
+        for (int i = 0; i < ARRAYS; i++)
+            if (memcmp(pools[0][i].at, pools[k][i].at, KINDS[i].room)) {
+                printf("%s%s: %s differs at level %d\n", call->name, how, KINDS[i].name, LOWEST + k);
+                failures++;
+            }
+    }
     return answer;
 }
 
@@ -83,24 +90,25 @@ int main(int count, char **words)
     if (count == 1) {
         static uint8_t public_key[LONGEST_KEY], private_key[LONGEST_KEY], seed[32];
         WANT(mldsa44_keygen(seed, 32, public_key, MLDSA44_PUBLIC_KEY_LEN, private_key, MLDSA44_PRIVATE_KEY_LEN), MLDSA_DONE);
-        printf("%d\n", mldsa_x86_64_level(3));
+        printf("%d\n", mldsa_x86_64_level(HIGHEST));
         return failures != 0;
     }
-    make_room(first), make_room(second), make_room(first_changed), make_room(second_changed);
+    make_room(plain), make_room(changed);
     for (int i = 0; i < cases && !failures; i++) {
         state = 0x9E3779B97F4A7C15 ^ ((uint64_t)number << 32) ^ (uint64_t)(i + 1);
-        fill(first, which);
-        copy(second, first);
+        fill(plain[0], which);
+        for (int l = 1; l < LEVELS; l++)
+            copy(plain[l], plain[0]);
         for (int k = 0; k < EXPORTS; k++) {
             if (CALLS[k].set && CALLS[k].set != number)
                 continue;
-            done[k] += call_at(level, &CALLS[k], first, second, "") == CALLS[k].done;
+            done[k] += call_at(level, &CALLS[k], plain, "") == CALLS[k].done;
             if (CALLS[k].count == 0)
                 continue;
-            copy(first_changed, first);
-            copy(second_changed, first);
-            change(first_changed, second_changed, &CALLS[k]);
-            call_at(level, &CALLS[k], first_changed, second_changed, ", changed");
+            for (int l = 0; l < LEVELS; l++)
+                copy(changed[l], plain[0]);
+            change(changed, &CALLS[k]);
+            call_at(level, &CALLS[k], changed, ", changed");
         }
     }
     for (int k = 0; k < EXPORTS; k++)

@@ -1,6 +1,7 @@
-/* What mldsa_x86_64.h declares, for the library that cargo builds: with 2 its calls take the code that every processor runs, and
- * with 3 that for AVX2, if the processor has it. c/test names the variable in which the library keeps what it found `known`: 0
- * before it has asked, then 1 for no and 2 for yes. With -DPLAIN a program takes the first from its beginning to its end. */
+/* What mldsa_x86_64.h declares, for the library that cargo builds: with 1 its calls take the code that every processor runs, with
+ * 2 that for SSE4.2, and with 3 that for AVX2, as far as the processor has them. c/test names the variable in which the library
+ * keeps what it found `known`: 0 before it has asked, then one of these. With -DLEVEL=1 or 2 a program takes that code from its
+ * beginning to its end. */
 #include "mldsa.h"
 #include "mldsa_x86_64.h"
 
@@ -18,19 +19,24 @@ int mldsa_x86_64_level(int most)
             abort();
         found = known;
     }
-    known = most > 2 ? found : 1;
-    return known + 1;
+    __builtin_cpu_init();
+    if (most > 2)
+        known = found;
+    else
+        known = most > 1 && __builtin_cpu_supports("sse4.2") ? 2 : 1;
+    return known;
 }
 
-#ifdef PLAIN
+#ifdef LEVEL
 __attribute__((constructor)) static void choose(void)
 {
-    mldsa_x86_64_level(2);
+    if (mldsa_x86_64_level(LEVEL) != LEVEL)
+        abort();
 }
 
 __attribute__((destructor)) static void look(void)
 {
-    if (known != 1)
+    if (known != LEVEL)
         abort();
 }
 #endif

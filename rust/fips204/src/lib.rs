@@ -14,9 +14,9 @@ extern crate alloc;
 #[cfg(all(test, not(feature = "default-rng")))]
 extern crate std;
 
-mod avx2;
 mod der;
 mod error;
+mod levels;
 mod pieces;
 pub mod pre_hash;
 mod prepared;

@@ -15,17 +15,14 @@ pub fn power2round<const K: usize>(r: &[R; K]) -> ([R; K], [R; K]) {
     (high, low)
 }
 
-crate::avx2::with_avx2! {
-    /// `power2round` of each coefficient of `r`, in place: the high parts are written into `high`, and the low parts
-    /// over `r`. Internal: serves the crate `fips204` alone.
-    pub fn write_power2round<const K: usize>(r: &mut [R; K], high: &mut [R; K]) {
-        write_zip_vectors(high, r, |_, x| power2round_coefficient(x).0);
-        write_map_vector(r, |x| power2round_coefficient(x).1);
-    }
+/// `power2round` of each coefficient of `r`, in place: the high parts are written into `high`, and the low parts
+/// over `r`. Internal: serves the crate `fips204` alone.
+pub fn write_power2round<const K: usize>(r: &mut [R; K], high: &mut [R; K]) {
+    write_zip_vectors(high, r, |_, x| power2round_coefficient(x).0);
+    write_map_vector(r, |x| power2round_coefficient(x).1);
 }
 
 /// `power2round` of one coefficient.
-#[inline(always)]
 fn power2round_coefficient(r: Zq) -> (Zq, Zq) {
     // r0 = r mod± 2^d, r1 = (r - r0) / 2^d
     let high = (r + 4095) >> D;

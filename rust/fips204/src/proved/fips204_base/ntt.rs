@@ -33,7 +33,7 @@ pub fn inv_ntt<V: Residue, const KL: usize>(
     out
 }
 
-crate::avx2::with_avx2! {
+crate::levels::with_avx2! {
     /// `write_ntt` in lanes, with a meter that nobody reads: as it is not written to, the compiler leaves it out.
     #[inline(never)]
     pub(crate) fn write_lanes_ntt(w: &mut [Lanes; 256]) {
@@ -41,7 +41,7 @@ crate::avx2::with_avx2! {
     }
 }
 
-crate::avx2::with_avx2! {
+crate::levels::with_sse42_and_avx2! {
     /// `write_inv_ntt` in lanes, as `write_lanes_ntt`.
     #[inline(never)]
     pub(crate) fn write_lanes_inv_ntt(w: &mut [Lanes; 256]) {

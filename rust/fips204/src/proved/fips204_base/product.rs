@@ -27,7 +27,7 @@ impl Transforms {
         }
     }
 
-    crate::avx2::with_avx2! {
+    crate::levels::with_avx2! {
         write_transforms_for_any write_transforms_for_avx2 write_transforms_for_others
         /// Becomes `v` (Algorithm 41). Coefficients are below `q` in absolute value.
         ///
@@ -41,7 +41,7 @@ impl Transforms {
         }
     }
 
-    crate::avx2::with_avx2! {
+    crate::levels::with_avx2! {
         write_transforms_and_factor_for_any write_transforms_and_factor_for_avx2 write_transforms_and_factor_for_others
         /// Becomes `v`, as by `write_transforms`, and returns `c` as what vectors are multiplied by. Both take one run of the
         /// network, with `c` in the last lane. Coefficients are below `q` in absolute value.
@@ -66,7 +66,7 @@ impl Transforms {
         write_lanes(&self.values, out);
     }
 
-    crate::avx2::with_avx2! {
+    crate::levels::with_avx2! {
         subtract_multiple_for_any subtract_multiple_for_avx2 subtract_multiple_for_others
         /// Takes `c v` away.
         pub fn subtract_multiple(&mut self, c: &Factor, v: &Transforms) {
@@ -85,7 +85,7 @@ pub struct Factor {
 }
 
 impl Factor {
-    crate::avx2::with_avx2! {
+    crate::levels::with_sse42_and_avx2! {
         /// `c`, whose coefficients are below `q` in absolute value.
         #[inline(never)]
         pub fn of(c: &R) -> Factor {
@@ -155,7 +155,7 @@ impl<'a> Products<'a> {
     }
 }
 
-crate::avx2::with_avx2! {
+crate::levels::with_avx2! {
     /// Writes `c v` (Algorithms 45 and 42 at each polynomial): lane `r` of value `n` is coefficient `n` of polynomial `r`.
     fn write_multiple(c: &Factor, v: &Transforms, out: &mut [Lanes; 256]) {
         for n in 0..256usize {
@@ -165,7 +165,7 @@ crate::avx2::with_avx2! {
     }
 }
 
-crate::avx2::with_avx2! {
+crate::levels::with_avx2! {
     /// Writes `c v`, and from lane 4 on `c u`, in the first four polynomials of both.
     fn write_multiples(c: &Factor, v: &Transforms, u: &Transforms, out: &mut [Lanes; 256]) {
         for n in 0..256usize {

@@ -73,7 +73,7 @@ fn f1600x4(states: &mut [[u64; 4]; 25]) {
     }
 }
 
-crate::avx2::with_avx2! {
+crate::levels::with_avx2! {
     /// The permutation Keccak-f[1600] of each of four states.
     pub fn f1600_four(a: &mut [u64; 25], b: &mut [u64; 25], c: &mut [u64; 25], d: &mut [u64; 25]) {
         let mut states = [[0; 4]; 25];

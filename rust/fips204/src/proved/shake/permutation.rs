@@ -114,7 +114,7 @@ pub(crate) fn round(a: &[u64; 25], constant: u64) -> [u64; 25] {
     ]
 }
 
-crate::avx2::with_avx2! {
+crate::levels::with_avx2! {
     /// The permutation Keccak-f[1600] of the 25 lanes of a state, lane (x, y) at place `x + 5 * y`.
     pub fn f1600(state: &mut [u64; 25]) {
         let mut a = *state;

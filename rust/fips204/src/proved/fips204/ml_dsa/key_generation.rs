@@ -170,7 +170,7 @@ fn write_key_vector<const K: usize, const L: usize, G: Xof>(
     Ok(())
 }
 
-crate::avx2::with_avx2! {
+crate::levels::with_avx2! {
     /// Adds `v` to `t`, with results from 0 to `q - 1`. Coefficients of both are below `q` in absolute value.
     fn write_sum<const K: usize>(t: &mut [R; K], v: &[R; K]) {
         write_zip_vectors(t, v, |x, y| full_reduce32(x + y));

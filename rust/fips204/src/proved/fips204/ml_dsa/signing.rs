@@ -204,7 +204,7 @@ impl<'a, const K: usize, const L: usize, H, G> SigningKey<'a, K, L, H, G> {
     }
 }
 
-crate::avx2::with_avx2! {
+crate::levels::with_avx2! {
     /// Writes `HighBits` of each coefficient of `w`. `gamma2` is 95232 or 261888, and coefficients are below `q` in
     /// absolute value.
     fn write_high_vector<const K: usize>(gamma2: i32, w: &[R; K], out: &mut [R; K]) {
@@ -218,28 +218,28 @@ pub(crate) fn has_norm_below<const N: usize>(v: &[R; N], bound: u32) -> bool {
     (infinity_norm(v) as u32) < bound
 }
 
-crate::avx2::with_avx2! {
+crate::levels::with_avx2! {
     /// Adds `y` to `z`, centred. Coefficients of `y` are at most 524288, and those of `z` below `q`, in absolute value.
     fn write_centred_sum<const L: usize>(z: &mut [R; L], y: &[R; L]) {
         write_zip_vectors(z, y, |product, mask| center_mod(mask + product));
     }
 }
 
-crate::avx2::with_avx2! {
+crate::levels::with_avx2! {
     /// Takes `v` from `w`, which stays below `q` in absolute value, as coefficients of both are.
     fn write_difference<const K: usize>(w: &mut [R; K], v: &[R; K]) {
         write_zip_vectors(w, v, |x, product| difference(x, product));
     }
 }
 
-crate::avx2::with_avx2! {
+crate::levels::with_avx2! {
     /// Writes `LowBits` of each coefficient of `v`, which are below `q` in absolute value.
     fn write_low_vector<const K: usize>(gamma2: i32, v: &[R; K], out: &mut [R; K]) {
         write_zip_vectors(out, v, |_, x| low_bits(gamma2, x));
     }
 }
 
-crate::avx2::with_avx2! {
+crate::levels::with_avx2! {
     /// Writes the hint of `v = w - c s2` and `t = c t0` over `t`: `MakeHint` of `-t` and `v + t` at each coefficient.
     /// `gamma2` is 95232 or 261888, and coefficients are below `q` in absolute value.
     fn write_hint<const K: usize>(gamma2: i32, v: &[R; K], t: &mut [R; K]) {
@@ -253,17 +253,15 @@ crate::avx2::with_avx2! {
     }
 }
 
-crate::avx2::with_avx2! {
-    /// How many ones a hint has. `K` is at most 8.
-    fn number_of_ones<const K: usize>(h: &[R; K]) -> usize {
-        let mut total = 0usize;
-        for row in h {
-            for n in 0..256 {
-                if row.0[n] > 0 {
-                    total += 1;
-                }
+/// How many ones a hint has. `K` is at most 8.
+fn number_of_ones<const K: usize>(h: &[R; K]) -> usize {
+    let mut total = 0usize;
+    for row in h {
+        for n in 0..256 {
+            if row.0[n] > 0 {
+                total += 1;
             }
         }
-        total
     }
+    total
 }

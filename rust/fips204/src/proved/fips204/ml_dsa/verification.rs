@@ -154,7 +154,7 @@ fn open_signature<'a, const K: usize, const L: usize, H: Xof>(
     }
 }
 
-crate::avx2::with_avx2! {
+crate::levels::with_avx2! {
     /// Writes `w1' = UseHint(h, w)` (line 10) over `w`.
     ///
     /// Coefficients of `w` are below `q` in absolute value, those of `h` 0 or 1. `K` is that of the parameter set.

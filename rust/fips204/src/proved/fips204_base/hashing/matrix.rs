@@ -53,7 +53,7 @@ fn are_below_q(values: &[i32; 256]) -> bool {
     most < Q
 }
 
-crate::avx2::with_avx2! {
+crate::levels::with_sse42_and_avx2! {
     /// Puts the coefficients that 256 triples give into `values`, and returns how many there are. Nearly all triples are
     /// accepted, so it decodes 256 at once, and compacts only if one is too large.
     fn write_first_triples(triples: &[u8], values: &mut [i32; 256]) -> usize {

@@ -8,7 +8,7 @@ use crate::proved::fips204_base::hashing::{open_numbered, push_branchless};
 use crate::proved::fips204_base::types::{R, R0};
 use crate::proved::fips204_base::xof::{Xof, XofReader};
 
-crate::avx2::with_avx2! {
+crate::levels::with_avx2! {
     /// Puts the coefficients that the half bytes of `piece` give into `values` from place `kept` on, as many as
     /// have room, and returns how many there are then.
     fn write_kept_half_bytes(eta: i32, piece: &[u8], values: &mut [i32; 256], kept: usize) -> usize {

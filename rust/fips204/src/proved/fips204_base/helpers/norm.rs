@@ -4,7 +4,7 @@
 use crate::proved::fips204_base::helpers::reduce::center_mod;
 use crate::proved::fips204_base::types::R;
 
-crate::avx2::with_avx2! {
+crate::levels::with_avx2! {
     /// The norm of a vector of at least one polynomial: the largest absolute value of a coefficient that
     /// is centred modulo `q`. Coefficients are below `2^31 - 2^22` in absolute value.
     pub fn infinity_norm<const ROW: usize>(w: &[R; ROW]) -> i32 {

@@ -38,7 +38,7 @@ pub fn mat_vec_mul<const K: usize, const L: usize>(a: &[[T; L]; K], u: &[T; L]) 
     out
 }
 
-crate::avx2::with_avx2! {
+crate::levels::with_sse42_and_avx2! {
     /// Writes the sums of the products of a row of the matrix with the vector, value by value.
     ///
     /// Not inlined, so that the compiler still knows that `out` is apart from both.

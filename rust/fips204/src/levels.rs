@@ -1,13 +1,30 @@
-//! The choice of code for AVX2 when the program runs. What is unsafe of this package stands here.
+//! The choice of code for SSE4.2 and for AVX2 when the program runs. What is unsafe of this package stands here.
 #![allow(unsafe_code)]
 
 #[cfg(target_arch = "x86_64")]
 use core::sync::atomic::{AtomicU8, Ordering};
 
-/// Declares a function that is compiled twice, the second time for processors with AVX2, BMI1 and BMI2, and that calls the one of
-/// these that fits. What it calls in turn has to be inlined, to be compiled with it.
+/// Declares a function that is compiled twice, the second time for processors with AVX2, BMI1 and BMI2, and that calls the one
+/// of these that fits. What it calls in turn has to be inlined, to be compiled with it.
 macro_rules! with_avx2 {
+    ($($function:tt)+) => {
+        crate::levels::chosen! { false; $($function)+ }
+    };
+}
+pub(crate) use with_avx2;
+
+/// The same, compiled a third time for processors that have SSE4.2, and not all of that.
+macro_rules! with_sse42_and_avx2 {
+    ($($function:tt)+) => {
+        crate::levels::chosen! { cfg!(not(target_feature = "sse4.2")); $($function)+ }
+    };
+}
+pub(crate) use with_sse42_and_avx2;
+
+/// What both declare, after whether there is that for SSE4.2.
+macro_rules! chosen {
     (
+        $for_sse42:expr;
         $(#[$attribute:meta])*
         $visible:vis fn $name:ident $(<$(const $size:ident: usize),+>)? ($($argument:ident: $type:ty),+ $(,)?)
             $(-> $result:ty)? $body:block
@@ -26,15 +43,25 @@ macro_rules! with_avx2 {
                 fn for_avx2 $(<$(const $size: usize),+>)? ($($argument: $type),+) $(-> $result)? {
                     for_any($($argument),+)
                 }
-                // (with a frame of its own, which is not in the stack beside that for AVX2)
+                // (each of these with a frame of its own, which is not in the stack beside that for AVX2)
+                #[target_feature(enable = "sse4.2")]
+                #[inline(never)]
+                fn for_sse42 $(<$(const $size: usize),+>)? ($($argument: $type),+) $(-> $result)? {
+                    for_any($($argument),+)
+                }
                 #[inline(never)]
                 fn for_others $(<$(const $size: usize),+>)? ($($argument: $type),+) $(-> $result)? {
                     for_any($($argument),+)
                 }
-                if crate::avx2::is_there() {
+                if crate::levels::has(crate::levels::AVX2) {
                     // SAFETY: the processor has AVX2, BMI1 and BMI2, and the system keeps its registers.
                     #[allow(unsafe_code)]
                     return unsafe { for_avx2($($argument),+) };
+                }
+                if $for_sse42 && crate::levels::has(crate::levels::SSE42) {
+                    // SAFETY: the processor has SSE4.2, and what that stands on.
+                    #[allow(unsafe_code)]
+                    return unsafe { for_sse42($($argument),+) };
                 }
                 for_others($($argument),+)
             }
@@ -47,6 +74,7 @@ macro_rules! with_avx2 {
     };
     // a method, behind the names of its forms: such a function has none of its own in it
     (
+        false;
         $for_any:ident $for_avx2:ident $for_others:ident
         $(#[$attribute:meta])*
         $visible:vis fn $name:ident $(<$(const $size:ident: usize),+>)? (&mut $self:ident $(, $argument:ident: $type:ty)* $(,)?)
@@ -59,7 +87,7 @@ macro_rules! with_avx2 {
                 not(all(target_feature = "avx2", target_feature = "bmi1", target_feature = "bmi2"))
             ))]
             {
-                if crate::avx2::is_there() {
+                if crate::levels::has(crate::levels::AVX2) {
                     // SAFETY: the processor has AVX2, BMI1 and BMI2, and the system keeps its registers.
                     #[allow(unsafe_code)]
                     return unsafe { $self.$for_avx2($($argument),*) };
@@ -89,33 +117,41 @@ macro_rules! with_avx2 {
         }
     };
 }
-pub(crate) use with_avx2;
+pub(crate) use chosen;
 
-/// 0 until it was asked, then 1 for no and 2 for yes. Whoever asks at the same time finds the same.
+/// The level of a processor of which no more than x86-64 itself is used.
+#[cfg(target_arch = "x86_64")]
+const ANY: u8 = 1;
+/// That of one with SSE4.2, and with what that stands on: SSE3, SSSE3 and SSE4.1.
+#[cfg(target_arch = "x86_64")]
+pub(crate) const SSE42: u8 = 2;
+/// That of one with AVX2, BMI1 and BMI2 too, if the system keeps its registers.
+#[cfg(target_arch = "x86_64")]
+pub(crate) const AVX2: u8 = 3;
+
+/// 0 until it was asked, then one of these. Whoever asks at the same time finds the same.
 #[cfg(target_arch = "x86_64")]
 static KNOWN: AtomicU8 = AtomicU8::new(0);
 
-/// Whether the processor has AVX2, BMI1 and BMI2, and the system keeps its registers.
+/// Whether the processor is of this level, `SSE42` or `AVX2`, or above.
 #[cfg(target_arch = "x86_64")]
 #[inline(always)]
-pub(crate) fn is_there() -> bool {
-    match KNOWN.load(Ordering::Relaxed) {
-        0 => asked(),
-        known => known == 2,
-    }
+pub(crate) fn has(level: u8) -> bool {
+    let known = KNOWN.load(Ordering::Relaxed);
+    known >= level || known == 0 && asked() >= level
 }
 
 /// Asks, and keeps the answer.
 #[cfg(target_arch = "x86_64")]
 #[cold]
 #[inline(never)]
-fn asked() -> bool {
+fn asked() -> u8 {
     let found = found();
-    KNOWN.store(1 + u8::from(found), Ordering::Relaxed);
+    KNOWN.store(found, Ordering::Relaxed);
     found
 }
 
-/// The bytes at these places among those of both numbers, the low one first, on a processor that has AVX2.
+/// The bytes at these places among those of both numbers, the low one first, on a processor that has SSE4.2.
 #[cfg(target_arch = "x86_64")]
 #[inline(always)]
 pub(crate) fn shuffled(x: u128, y: u128, places: [usize; 16]) -> u128 {
@@ -125,7 +161,7 @@ pub(crate) fn shuffled(x: u128, y: u128, places: [usize; 16]) -> u128 {
     // (where the top bit is set, the instruction gives 0)
     let of_first = places.map(|it| if it < 16 { it as u8 } else { 0x80 });
     let of_second = places.map(|it| if it < 16 { 0x80 } else { it as u8 - 16 });
-    // SAFETY: each is 16 bytes of any bits, and a processor with AVX2 has SSSE3.
+    // SAFETY: each is 16 bytes of any bits, and a processor of level `SSE42` or above has SSSE3.
     unsafe {
         let chosen = |it: u128, places: [u8; 16]| {
             _mm_shuffle_epi8(
@@ -140,7 +176,7 @@ pub(crate) fn shuffled(x: u128, y: u128, places: [usize; 16]) -> u128 {
 /// What the processor says.
 #[cfg(target_arch = "x86_64")]
 #[allow(unused_unsafe)] // `__cpuid` is safe in later versions of Rust
-fn found() -> bool {
+fn found() -> u8 {
     use core::arch::x86_64::{__cpuid, __cpuid_count, _xgetbv};
 
     /// Asks for the registers that the system keeps.
@@ -150,20 +186,30 @@ fn found() -> bool {
         unsafe { _xgetbv(0) }
     }
 
-    // SAFETY: each x86-64 processor has `cpuid`, with leaf 0.
+    // SAFETY: each x86-64 processor has `cpuid`, with leaves 0 and 1.
     unsafe {
-        if __cpuid(0).eax < 7 {
-            return false;
+        let (last, first) = (__cpuid(0).eax, __cpuid(1));
+        let (sse3, ssse3, sse41, sse42) = (
+            first.ecx & 1,
+            first.ecx >> 9 & 1,
+            first.ecx >> 19 & 1,
+            first.ecx >> 20 & 1,
+        );
+        if sse3 & ssse3 & sse41 & sse42 == 0 {
+            return ANY;
         }
-        let (first, seventh) = (__cpuid(1), __cpuid_count(7, 0));
         let (xsave, avx) = (first.ecx >> 27 & 1, first.ecx >> 28 & 1);
+        // the system says by OSXSAVE that it keeps registers, and by bits 1 and 2 that those of SSE and AVX are among them
+        if last < 7 || xsave & avx == 0 || kept() & 6 != 6 {
+            return SSE42;
+        }
+        let seventh = __cpuid_count(7, 0);
         let (bmi1, avx2, bmi2) = (
             seventh.ebx >> 3 & 1,
             seventh.ebx >> 5 & 1,
             seventh.ebx >> 8 & 1,
         );
-        // the system says by OSXSAVE that it keeps registers, and by bits 1 and 2 that those of SSE and AVX are among them
-        xsave & avx & avx2 & bmi1 & bmi2 == 1 && kept() & 6 == 6
+        if bmi1 & avx2 & bmi2 == 1 { AVX2 } else { SSE42 }
     }
 }
 
@@ -171,10 +217,10 @@ fn found() -> bool {
 mod tests {
     extern crate std;
 
-    use super::{KNOWN, Ordering, found, is_there};
+    use super::{ANY, AVX2, KNOWN, Ordering, SSE42, found, has};
     use crate::proved::fips204_shake::{Input, MlDsa65};
 
-    /// A pair and a signature.
+    /// A pair and a signature, which the public key accepts.
     fn made() -> ([u8; 1952], [u8; 4032], [u8; 3309]) {
         let (mut public, mut private, mut signature) = ([0; 1952], [0; 4032], [0; 3309]);
         MlDsa65::keygen(&[7; 32], &mut public, &mut private).unwrap();
@@ -183,19 +229,31 @@ mod tests {
         (public, private, signature)
     }
 
-    /// AVX2 is found as std finds it; and without it, though it is there, the same is made.
+    /// A level is found as std finds it; and at each one below, the same is made.
     #[test]
     fn either_way() {
+        let has_sse42 = std::is_x86_feature_detected!("sse3")
+            && std::is_x86_feature_detected!("ssse3")
+            && std::is_x86_feature_detected!("sse4.1")
+            && std::is_x86_feature_detected!("sse4.2");
         let has_all = std::is_x86_feature_detected!("avx2")
             && std::is_x86_feature_detected!("bmi1")
             && std::is_x86_feature_detected!("bmi2");
-        assert_eq!(is_there(), has_all);
-        assert_eq!(is_there(), found());
-        let by_any = made();
-        KNOWN.store(1, Ordering::Relaxed);
-        assert!(!is_there());
-        assert_eq!(made(), by_any);
+        let highest = match (has_sse42, has_all) {
+            (false, _) => ANY,
+            (true, false) => SSE42,
+            (true, true) => AVX2,
+        };
+        let of_level = |level| (has(SSE42), has(AVX2)) == (level >= SSE42, level >= AVX2);
+        assert!(of_level(highest));
+        assert_eq!(found(), highest);
+        let by_highest = made();
+        for lower in ANY..highest {
+            KNOWN.store(lower, Ordering::Relaxed);
+            assert!(of_level(lower));
+            assert!(made() == by_highest, "level {lower}");
+        }
         KNOWN.store(0, Ordering::Relaxed);
-        assert_eq!(is_there(), found());
+        assert!(of_level(highest));
     }
 }
