@@ -8,6 +8,7 @@ import re
 import shutil
 import subprocess
 import sys
+import tempfile
 
 TOP = pathlib.Path(__file__).resolve().parent.parent
 SETS = ("44", "65", "87")
@@ -60,9 +61,11 @@ def rust_for_arm():
         version = re.match(r"rustc 1\.(\d+)", printed(f"{folder}/rustc", "--version"))
         if missing("cargo", "rustc", path=folder) or not version or int(version[1]) < 88:
             continue
-        library = pathlib.Path(printed(f"{folder}/rustc", "--print", "target-libdir", "--target", RUST_ARM))
-        if any(library.glob("libstd-*.rlib")):
-            return folder
+        # (a library of another version may lie there: only compiling tells)
+        with tempfile.TemporaryDirectory() as room:
+            words = [f"{folder}/rustc", "--target", RUST_ARM, "--crate-type", "lib", "--emit", "metadata", "-"]
+            if not subprocess.run(words, cwd=room, input=b"", capture_output=True, check=False).returncode:
+                return folder
     return None
 
 
