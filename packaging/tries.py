@@ -215,6 +215,13 @@ class Tries(unittest.TestCase):
         for file in self.dist.glob("*.deb"):
             file.unlink()
         checked(0)
+        # (nor is a file of another release in the list)
+        other = self.dist / f"mldsa-{self.version}.1-x86_64-linux.tar.gz"
+        shutil.copyfile(archive, other)
+        for name, line in checks.items():
+            with self.subTest(part=f"a file that is in no list, by {name}"):
+                self.runs("bash", "-c", line.replace(archive.name, other.name), cwd=self.dist, path=path, status=1)
+        other.unlink()
         content = archive.read_bytes()
         archive.write_bytes(content + b"\0")
         checked(1)

@@ -9,6 +9,7 @@
 //     REFUSED_ON      also every later call that changes a file or a folder is refused
 //     REFUSED_SIGNAL  the call raises this signal in place of giving an error, and is made after it
 //     RACED           a file that another program makes just before this one gives its name to another
+//     NO_LINKS        the file system has no links
 #define _GNU_SOURCE
 #include <dirent.h>
 #include <dlfcn.h>
@@ -121,16 +122,19 @@ static void race(const char *path) {
         RAW(SYS_close, RAW(SYS_openat, AT_FDCWD, path, O_WRONLY | O_CREAT | O_EXCL, 0600));
 }
 
-int link(const char *from, const char *to) {
+static int refused_link(const char *from, const char *to) {
     race(to);
     noted("link", from, to);
-    return refused("link", 1) ? -1 : REAL(link)(from, to);
+    if (refused("link", 1))
+        return 1;
+    errno = EPERM;
+    return getenv("NO_LINKS") != NULL;
 }
 
+int link(const char *from, const char *to) { return refused_link(from, to) ? -1 : REAL(link)(from, to); }
+
 int linkat(int one, const char *from, int other, const char *to, int flags) {
-    race(to);
-    noted("link", from, to);
-    return refused("link", 1) ? -1 : REAL(linkat)(one, from, other, to, flags);
+    return refused_link(from, to) ? -1 : REAL(linkat)(one, from, other, to, flags);
 }
 
 int rename(const char *from, const char *to) {

@@ -169,7 +169,7 @@ class Commands(Program):
                     call = ("convert", "--from", form, "--to", to, *(words if form == "raw" else ()), "-o", "new",
                             f"{name}.{form}")
                     if wanted is None:
-                        self.fails(*call, said="it has a seed and an expanded key, and raw bytes are one of them")
+                        self.fails(*call, said="it holds a seed and an expanded key: choose one with --parts")
                         continue
                     self.writes(*call, changed={"new": (wanted, mode)})
                     self.fails(*call, said="new: it is there already")
@@ -241,7 +241,7 @@ class Commands(Program):
         self.put("other.sig", signature)
         before = self.files()
         self.same("verify", self.call(f"{verify} other message"), (1, valid(public, "message: "), (
-            "mlsign: other: the signature is invalid: it, the message, the context or the key is another\n")))
+            "mlsign: other: the signature is invalid: it, the message, the context or the key is the wrong one\n")))
         self.same_files("verify", self.files(), before)
         os.chmod(self.path("private"), 0o644)
         note = "mlsign: note: private can be read by others: `chmod 600` keeps it private\n"
@@ -294,7 +294,7 @@ class Commands(Program):
         self.fails("sgn\n\nx", said=r"sgn\n\nx")
         for words in ((b"verify", b"--public", b"p\xff"),
                       (b"sign", b"--private", b"private", b"--context", b"p\xff", b"--out", b"new", b"message")):
-            self.fails(*words, said=r"p\xff: a word that is not UTF-8")
+            self.fails(*words, said=r"p\xff: this word is not UTF-8")
         context = "\n\x1b\u202e"
         self.silent("sign --private private --context", context, "--out new message")
         public = recorded("public-44.pem")

@@ -5,6 +5,7 @@ them). Tests of other users want to run as root, and the one that cuts the power
 these are missing they say so.
 """
 import contextlib
+import fcntl
 import hashlib
 import os
 import shutil
@@ -12,6 +13,7 @@ import signal
 import subprocess
 import tempfile
 import threading
+import time
 import unittest
 import unittest.mock
 
@@ -53,9 +55,12 @@ class Edges(Room):
         self.done("verify -q -p", public, "-s proof message")
         os.remove(self.path("proof"))
 
-
-class Pipes(Edges):
-    """Where a private key goes."""
+    def link(self, name, other, is_hard):
+        """Gives a file a second name, by a hard link or by a symbolic one."""
+        if is_hard:
+            os.link(self.path(name), self.path(other))
+        else:
+            os.symlink(name, self.path(other))
 
     def reader(self, name):
         """What comes out of a pipe, which is read until it is closed."""
@@ -63,6 +68,38 @@ class Pipes(Edges):
         thread = threading.Thread(target=lambda: found.append(self.read(name)), daemon=True)
         thread.start()
         return thread, found
+
+    @contextlib.contextmanager
+    def locked(self, folder="."):
+        """Another program has locked a folder."""
+        other = os.open(self.path(folder), os.O_RDONLY)
+        try:
+            fcntl.flock(other, fcntl.LOCK_EX)
+            yield
+        finally:
+            os.close(other)
+
+    def stopped(self, words, number, **more):
+        """A run that is stopped before a call of the system."""
+        run = self.start(words, REFUSED_CALL=str(number), REFUSED_SIGNAL=str(int(signal.SIGSTOP)), **more)
+        self.addCleanup(run.kill)
+        end = time.monotonic() + PATIENCE
+        while not (found := os.waitid(os.P_PID, run.pid, os.WSTOPPED | os.WNOHANG)):
+            self.assertLess(time.monotonic(), end, f"{words}: it is not stopped before call {number}")
+            time.sleep(0.001)
+        self.assertEqual(found.si_status, signal.SIGSTOP)
+        return run
+
+    def end(self, run):
+        """The status of a stopped run that goes on, and what it says."""
+        run.send_signal(signal.SIGCONT)
+        with run:
+            _, said = run.communicate(b"", PATIENCE)
+        return run.returncode, said.decode()
+
+
+class Pipes(Edges):
+    """Where a private key goes."""
 
     def unread(self, thread, name):
         """Ends the reader of a pipe that nobody has written to."""
@@ -243,6 +280,45 @@ class Replaced(Edges):
             self.done("sign -k private -o new -", stdin=message)
         self.done("verify -q -p public -s new message")
 
+    def test_two_messages_have_two_signatures(self):
+        """Where a link makes both signatures one file nothing is signed."""
+        for name in ("a", "b"):
+            self.put(name, name.encode())
+        for is_hard in (False, True):
+            self.put("b.sig", bytes(2420))
+            self.link("b.sig", "a.sig", is_hard)
+            for words in ("sign -k private", "sign -f -k private"):
+                self.fails(words, "a b", said="b.sig: it is the same file as the signature of a\n")
+                self.fails(words, "message b a", said="a.sig: it is the same file as the signature of b\n")
+            os.remove(self.path("a.sig"))
+        os.remove(self.path("b"))
+        self.link("b.sig", "a.sig", False)
+        self.link("a", "b", True)
+        for messages in ("a b", "a a"):
+            self.done("sign -k private", messages)
+            self.done("verify -q -p public", messages)
+
+    def test_a_pair_has_two_files(self):
+        same = "the private and the public key cannot have the same file"
+        self.put("other", b"text")
+        for is_hard in (False, True):
+            self.link("other", "linked", is_hard)
+            self.fails("keygen -f -k other -p linked", said=f"other: {same}")
+            self.fails("keygen -f -k linked -p other", said=f"linked: {same}")
+            os.remove(self.path("linked"))
+        self.put("other", b"")
+        for words, name in (("keygen -k - -p other", "-"), ("keygen -f -k other -p -", "other")):
+            with open(self.path("other"), "ab") as other:
+                self.fails(words, said=f"{name}: {same}", stdout=other)
+
+    def test_a_file_that_stays_is_not_read_to_its_end(self):
+        self.put("other", bytes(1 << 22))
+        for words in ("sign -k private -o other message", "public -k private -p other", "keygen -k new -p other",
+                      "convert -o other public"):
+            with tempfile.NamedTemporaryFile("r", encoding="utf-8") as log:
+                self.fails(words, said="other: it is there already, and only --force replaces it", CALLS=log.name)
+                self.assertLess(log.read().splitlines().count("read"), 20)
+
     def test_a_public_key_may_be_a_message(self):
         self.done("sign -k private -o signature public")
         self.done("verify -q -p public -s signature public")
@@ -357,22 +433,140 @@ class AtOnce(Edges):
                 if call not in ("link", "rename", "fsync", "unlink", "create", "statx"):
                     continue
                 self.reset(before)
-                stopped = {"REFUSED_CALL": str(number), "REFUSED_SIGNAL": str(int(signal.SIGSTOP))}
-                with self.start(words, **stopped) as first:
-                    self.assertEqual(os.waitid(os.P_PID, first.pid, os.WSTOPPED).si_status, signal.SIGSTOP)
-                    with self.start(words) as second:
-                        with contextlib.suppress(subprocess.TimeoutExpired):
-                            second.wait(0.2)
-                        first.send_signal(signal.SIGCONT)
-                        statuses = {first.wait(PATIENCE), second.wait(PATIENCE)}
+                with self.stopped(words, number) as first, self.start(words) as second:
+                    with contextlib.suppress(subprocess.TimeoutExpired):
+                        second.wait(0.2)
+                    first.send_signal(signal.SIGCONT)
+                    statuses = {first.wait(PATIENCE), second.wait(PATIENCE)}
                 self.assertIn(0, statuses)
                 self.assert_pair("private", "public")
+
+    def test_a_run_without_the_lock_undoes_nothing_of_another(self):
+        """A new pair that could not be locked loses the private key's name to a run that replaces the public key."""
+        words = "keygen --set 44 -f -k new -p new.pub"
+        links = [number for number, call in enumerate(self.calls(words), 1) if call == "link"]
+        self.setUp()
+        with self.locked():
+            first = self.stopped(words, links[1])
+        self.done(words, said=unittest.mock.ANY)
+        status, said = self.end(first)
+        self.assertEqual((status, "new: File exists" in said), (2, True), said)
+        self.assert_pair("new", "new.pub")
 
     def reset(self, names):
         """Only these keys are there."""
         self.setUp()
         for name in {"private", "public"} - set(names):
             os.remove(self.path(name))
+
+
+class Locked(Edges):
+    """A folder that another program has locked."""
+
+    def test_new_names_need_no_lock(self):
+        started = time.monotonic()
+        with self.locked():
+            for words in ("keygen -k new -p new.pub", "keygen -f -k other -p other.pub", "keygen -k - -p third.pub",
+                          "public -f -k private -p public", "sign -k private message"):
+                self.done(words)
+        self.assertLess(time.monotonic() - started, 4)
+
+    def test_a_pair_is_not_replaced(self):
+        """A run gives up after some seconds, and has written nothing until then."""
+        self.put("empty", b"")
+        os.mkdir(self.path("folder"))
+        self.put("folder/private", recorded("private-44.pem"), 0o600)
+        calls = [("keygen -f -k private -p public", "."), ("keygen -f -k private -p new", "."),
+                 ("keygen -f -k new -p public", "."), ("keygen -k new -p empty", "."),
+                 ("keygen -f -k - -p public", "."), ("keygen -f -k private -p /dev/null", "."),
+                 ("keygen -f -k folder/private -p public", "folder/")]
+        before = self.files()
+        with self.locked(), self.locked("folder"):
+            runs = [self.start(words) for words, _ in calls]
+            time.sleep(1)
+            self.same_files("while they wait", self.files(), before)
+            for (words, name), run in zip(calls, runs):
+                wrote, said = run.communicate(b"", PATIENCE)
+                self.assertEqual((run.returncode, wrote, said.decode()),
+                                 (2, b"", f"mlsign: {name}: another program has locked the folder\n"), words)
+        self.same_files("after them", self.files(), before)
+        self.assertEqual(os.listdir(self.path("folder")), ["private"])
+
+    def test_a_run_waits_for_another(self):
+        with self.locked():
+            run = self.start("keygen -f -k private -p public")
+            time.sleep(1)
+            self.assertIsNone(run.poll())
+        with run:
+            self.assertEqual((run.communicate(b"", PATIENCE), run.returncode), ((b"", b""), 0))
+        self.assert_pair("private", "public")
+
+
+class Meanwhile(Edges):
+    """What another program changes after a run has looked at it, and before the run uses it."""
+
+    CHANGED = "it was changed while this program ran\n"
+
+    def stop_at_pipe(self, words):
+        """A run that is stopped before it opens its pipe, which comes last."""
+        os.mkfifo(self.path("pipe"))
+        thread, _ = self.reader("pipe")
+        calls = self.calls(words)
+        thread.join(PATIENCE)
+        return self.stopped(words, len(calls) - calls[::-1].index("open"))
+
+    def test_a_pipe_is_another(self):
+        for words in ("keygen -f -k pipe -p -", "convert -f -o pipe private", "public -k private -p pipe"):
+            for is_pipe in (True, False):
+                self.setUp()
+                run = self.stop_at_pipe(words)
+                os.rename(self.path("pipe"), self.path("first"))
+                if is_pipe:
+                    os.mkfifo(self.path("pipe"))
+                    thread, found = self.reader("pipe")
+                else:
+                    self.put("pipe", b"another")
+                self.assertEqual(self.end(run), (2, f"mlsign: pipe: {self.CHANGED}"), words)
+                if is_pipe:
+                    thread.join(PATIENCE)
+                    self.assertEqual(found, [b""])
+                else:
+                    self.assertEqual(self.read("pipe"), b"another")
+
+    @unittest.skipUnless(IS_ROOT, "root gives a pipe to another user")
+    def test_a_pipe_gets_another_owner(self):
+        for words in ("keygen -f -k pipe -p -", "convert -f -o pipe private"):
+            self.setUp()
+            run = self.stop_at_pipe(words)
+            thread, found = self.reader("pipe")
+            os.chown(self.path("pipe"), ANOTHER, ANOTHER)
+            said = "mlsign: pipe: it is a pipe of another user, which gets no private key\n"
+            self.assertEqual(self.end(run), (2, said))
+            thread.join(PATIENCE)
+            self.assertEqual(found, [b""])
+
+    def test_a_file_is_another(self):
+        """Also a link to the file that was found; and where the file system has no links."""
+        for words, names in (("keygen -f -k private -p public", ("public", "private")),
+                             ("public -f -k private -p public", ("public",)),
+                             ("sign -f -k private -o public message", ("public",))):
+            for comes, has_links in (("a file", True), ("a link", True), ("a file", False)):
+                more = {} if has_links else {"NO_LINKS": "1"}
+                self.setUp()
+                calls = self.calls(words, **more)
+                links = [number for number, call in enumerate(calls, 1) if call == "link"]
+                for number, name in zip(links, names):
+                    self.setUp()
+                    # (without links a copy is made, whose source is opened by the next call)
+                    run = self.stopped(words, number if has_links else number + 1, **more)
+                    os.rename(self.path(name), self.path("moved"))
+                    if comes == "a link":
+                        os.symlink("moved", self.path(name))
+                    else:
+                        self.put(name, b"another")
+                    wanted = {it: file for it, file in self.files().items() if not LEFT.search(it)}
+                    self.assertEqual(self.end(run), (2, f"mlsign: {name}: {self.CHANGED}"), words)
+                    self.same_files(words, self.files(), wanted)
 
 
 class Damaged(Edges):
@@ -438,7 +632,8 @@ class LongNames(Edges):
         digits = hashlib.sha256(b"").hexdigest()
         self.path(DEEP).mkdir(parents=True)
         for text, reason in ((b"text", "it is no list of `sha256sum`"), (b"\xff", "the list is not UTF-8"),
-                             (f"{digits}  none".encode(), "no file of the list is there"),
+                             (f"{digits}  none\n".encode(), "no file of the list is there"),
+                             (f"{digits}  -\n".encode(), "it has the sum of standard input, which is no file"),
                              (b"x" * ((1 << 24) + 1), "it is too long for a list")):
             self.put(f"{DEEP}/list", text)
             self.done(f"sign -f -k private -o signature {DEEP}/list")
@@ -449,7 +644,7 @@ class LongNames(Edges):
 class Verified(Edges):
     """What is verified, by which key, and what is said of it."""
 
-    INVALID = "the signature is invalid: it, the message, the context or the key is another\n"
+    INVALID = "the signature is invalid: it, the message, the context or the key is the wrong one\n"
 
     def setUp(self):
         super().setUp()
@@ -493,7 +688,7 @@ class Verified(Edges):
         self.ends(keys, "a b", wrote=f"a: valid, by public\nb: valid, by other.pub\n{both}")
         self.ends(keys, "-s a.sig c", status=1, said="the signature is invalid under each of the public keys\n")
         self.ends(keys, "-s a.sig -", status=2, read=b"a",
-                  said="-: it can be read only once, so it is verified by one public key\n")
+                  said="-: it can be read only once: give one public key\n")
         self.ends("-p public -p none a", status=2, said="none: No such file or directory (os error 2)\n")
 
     def test_a_fingerprint_in_place_of_trust_in_a_file(self):
@@ -522,37 +717,133 @@ class Verified(Edges):
         self.assertEqual(self.done("public -k - -p -", read=private), public)
         self.assertEqual(self.done("convert --to der -o - -", read=private), der_of(private))
 
+    def listed(self, sums, call="--sums -p public"):
+        """Signs a list, and gives the words of a call that checks it, and what such a call first prints."""
+        self.put("SUMS", sums.encode() if isinstance(sums, str) else sums)
+        self.done("sign -k private SUMS")
+        return f"{call} SUMS", f"SUMS: valid\nkey: {self.key}\n"
+
+    def sums(self, *names):
+        """What `sha256sum` writes of these files."""
+        return subprocess.run(["sha256sum", *names], cwd=self.room, capture_output=True, check=True).stdout
+
     def test_a_signed_list_of_sums(self):
         files = {"a": b"a", "b": b"b", "c d": b"c", "e\nf\\g": b"escaped"}
         for name, bytes_ in files.items():
             self.put(name, bytes_)
-        sums = subprocess.run(["sha256sum", *files], cwd=self.room, capture_output=True, check=True).stdout
-        self.put("SUMS", sums)
-        self.done("sign -k private SUMS")
-        call, head = "--sums -p public", f"SUMS: valid\nkey: {self.key}\n"
+        sums = self.sums(*files)
+        call, head = self.listed(sums)
         every, rest = (head + "".join(f"{name}: OK\n" for name in names)
                        for names in (("a", "b", "c d", r"e\nf\g"), ("a", "c d", r"e\nf\g")))
-        self.ends(call, "SUMS", wrote=every)
-        self.ends("-q", call, "SUMS")
-        self.ends(call, "-s SUMS.sig -", wrote=every.replace("SUMS", "-", 1), read=sums)
+        self.ends(call, wrote=every)
+        self.ends("-q", call)
+        self.ends("--sums -p public -s SUMS.sig -", wrote=every.replace("SUMS", "-", 1), read=sums)
         os.remove(self.path("b"))
-        self.ends(call, "SUMS", status=2, wrote=rest,
+        self.ends(call, status=2, wrote=rest,
                   said="b: No such file or directory (os error 2)\n1 of 4 files could not be checked\n")
-        self.ends(call, "--ignore-missing SUMS", wrote=rest)
+        self.ends(call, "--ignore-missing", wrote=rest)
         self.put("b", b"another")
-        self.ends(call, "SUMS", status=1, wrote=rest, said="b: it is not the file of the list\n")
+        self.ends(call, status=1, wrote=rest, said="b: it is not the file of the list\n")
         for name in files:
             os.remove(self.path(name))
-        self.ends(call, "--ignore-missing SUMS", status=2, wrote=head, said="SUMS: no file of the list is there\n")
+        self.ends(call, "--ignore-missing", status=2, wrote=head, said="SUMS: no file of the list is there\n")
         self.put("SUMS", sums.replace(b"  a", b"  x"))
-        self.ends(call, "SUMS", status=1, said=f"SUMS: {self.INVALID}")
-        self.put("a", b"a")
+        self.ends(call, status=1, said=f"SUMS: {self.INVALID}")
+        self.ends(call, "a", status=1, said=f"SUMS: {self.INVALID}")
+
+    def test_a_changed_file_of_a_list(self):
+        """It is told with `--quiet` too: of a file that is read in two pieces, and of one whose name is escaped."""
+        files = {"large": bytes(100_000), "h\ri": b"content"}
+        for name, bytes_ in files.items():
+            self.put(name, bytes_)
+        large, other = (hashlib.sha256(bytes_).hexdigest() for bytes_ in files.values())
+        call, head = self.listed(f"{large}  large\n\\{other}  h\\ri\n")
+        self.ends(call, wrote=f"{head}large: OK\nh\\ri: OK\n")
+        self.ends(call, "h\ri", wrote=f"{head}h\\ri: OK\n")
+        self.ends(call, "-q")
+        for name, bytes_ in files.items():
+            escaped = name.replace("\r", "\\r")
+            rest, = (it.replace("\r", "\\r") for it in files if it != name)
+            changed = [bytes_ + b"\0", bytes_[:-1], b"", bytes_[:65536] + b"\0"]
+            for place in {0, 65535, 65536, len(bytes_) - 1}:
+                changed.append(bytes_[:place] + b"x" + bytes_[place + 1:])
+            for other in changed:
+                self.put(name, other)
+                said = f"{escaped}: it is not the file of the list\n"
+                self.ends(call, status=1, wrote=f"{head}{rest}: OK\n", said=said)
+                self.ends(call, "-q", status=1, said=said)
+                self.ends(call, "-q", name, status=1, said=said)
+                self.ends(call, name, status=1, wrote=head, said=said)
+            self.put(name, bytes_)
+
+    def test_a_folder_in_a_list(self):
+        os.mkdir(self.path("folder"))
+        digits = [hashlib.sha256(it).hexdigest() for it in (b"", b"a")]
+        call, head = self.listed(f"{digits[0]}  folder\n{digits[1]}  a\n")
+        said = "folder: Is a directory (os error 21)\n"
+        for words, wrote in (("", f"{head}a: OK\n"), (" -q", ""), (" --ignore-missing", f"{head}a: OK\n")):
+            self.ends(call + words, status=2, wrote=wrote, said=f"{said}1 of 2 files could not be checked\n")
+        self.ends(call, "folder", status=2, wrote=head, said=said)
+
+    def test_files_that_stand_behind_a_list(self):
+        """They have to be in it, by their names there, and no other file of it is looked at."""
+        call, head = self.listed(self.sums("a", "b", "c"))
+        os.remove(self.path("c"))
+        self.put("aa", b"a")
+        self.ends(call, "b a", wrote=f"{head}b: OK\na: OK\n")
+        self.ends(call, "-q b")
+        self.ends("--sums -p public -s SUMS.sig - a", read=self.read("SUMS"),
+                  wrote=f"-: valid\nkey: {self.key}\na: OK\n")
+        for name in ("aa", "A", "./a", f"{self.room}/a", "SUMS", "-", "none"):
+            said = f"{name}: it is not in the list\n"
+            self.ends(call, name, status=1, wrote=head, said=said)
+            self.ends(call, "-q", name, "a", status=1, said=said)
+            self.ends(call, "a", name, status=1, wrote=f"{head}a: OK\n", said=said)
+        self.ends(call, b"", b"new\nline", status=1, wrote=head,
+                  said=": it is not in the list\nnew\\nline: it is not in the list\n")
+        self.ends(call, "a c", status=2, wrote=f"{head}a: OK\n",
+                  said="c: No such file or directory (os error 2)\n1 of 2 files could not be checked\n")
+        self.ends(call, "c", status=2, wrote=head, said="c: No such file or directory (os error 2)\n")
+        self.put("b", b"another")
+        self.ends(call, "b a", status=1, wrote=f"{head}a: OK\n", said="b: it is not the file of the list\n")
+        self.ends(call, "a", wrote=f"{head}a: OK\n")
+
+    def test_a_name_that_is_twice_in_a_list(self):
+        """The file has to have both sums."""
+        one, other = (f"{hashlib.sha256(it).hexdigest()}  a\n" for it in (b"a", b"b"))
+        call, head = self.listed(one + one)
+        self.ends(call, "a", wrote=f"{head}a: OK\na: OK\n")
+        for sums in (one + other, other + one):
+            self.listed(sums)
+            for words in (call, f"{call} a"):
+                self.ends(words, "-q", status=1, said="a: it is not the file of the list\n")
+
+    def test_a_list_as_sha256sum_writes_it(self):
+        names = [" first", "*star", "\\front", "end\\", "tab\t", "\u00e9", "n\nn", "\\n", "-x", "last "]
+        for name in names:
+            self.put(name, name.encode())
+        for option in ("--text", "--binary"):
+            call, _ = self.listed(self.sums(option, "--", *names))
+            self.ends(call, "-q")
+            self.ends(call, "-q", *(name.encode() for name in names if name[0] != "-"))
+
+    def test_a_list_as_sha256sum_does_not_write_it(self):
         digits = hashlib.sha256(b"a").hexdigest()
-        for text in (f"{digits} a\n", f"{digits[:-1]}  a\n", f"{digits}  \n", "\n", f"{digits}  a\n\n",
-                     f"SHA256 (a) = {digits}\n", f"x{digits[1:]}  a\n"):
-            self.put("SUMS", text.encode())
-            self.done("sign -k private SUMS")
-            self.ends(call, "SUMS", status=2, wrote=head, said="SUMS: it is no list of `sha256sum`\n")
-        self.put("SUMS", f"{digits.upper()} *a\n".encode())
-        self.done("sign -k private SUMS")
-        self.ends(call, "SUMS", wrote=f"{head}a: OK\n")
+        line, escaped = f"{digits}  a\n", f"\\{digits}  a"
+        for name in ("a\r", "a\\", "a\\b", "a\\t"):
+            self.put(name, b"a")
+        for sums in ("", "\n", f"{line}\n", f"\n{line}", f"# files\n{line}", f"{digits}  a", f"{line}{digits}  a",
+                     f"{digits} a\n", f"{digits}  \n", f"{digits} *\n", f"{digits}\n", f"{digits}\t a\n", f" {line}",
+                     f"{digits[:-1]}  a\n", f"{digits}0  a\n", f"g{digits[1:]}  a\n", f"{digits.upper()}  a\n",
+                     f"SHA256 (a) = {digits}\n", f"{digits}  a\r\n", f"{digits}  a\0\n", f"{digits}  a\0{digits}  b\0",
+                     f"{digits}  a\\b\n", f"{digits}  a\\\\\n", f"{escaped}\n", f"{escaped}\\\n", f"{escaped}\\\\\\\n",
+                     f"{escaped}\\t\n", f"{escaped}\\nb\\x\n", f"{escaped}\r\\n\n", f"\\{escaped}\\\\\n",
+                     f"\\{digits}  \n", f"\\{line}{line}"):
+            call, head = self.listed(sums)
+            for words in (call, f"{call} a"):
+                self.ends(words, status=2, wrote=head, said="SUMS: it is no list of `sha256sum`\n")
+        for sums in (f"{digits}  -\n", f"{digits} *-\n", f"{line}{digits}  -\n"):
+            call, head = self.listed(sums)
+            for words in (call, f"{call} a", f"{call} -"):
+                self.ends(words, status=2, wrote=head, read=b"a",
+                          said="SUMS: it has the sum of standard input, which is no file\n")

@@ -16,9 +16,8 @@ use Rattle.fips204_shake.proofs.Elements.{ok_is}
 use Rattle.fips204_shake.proofs.KeyFiles.{public_of_file, private_of_file}
 use Rattle.mlsign_engine.proofs.LaxTexts.{strict_of_text, strict_is_lf}
 use Rattle.mlsign_engine.proofs.PemFiles.{pem_of_text}
-use Rattle.mlsign_engine.specs.Commands.{FailsPrivate, IsSigned, Judges, FilesBelong, MadeFilesBelong}
+use Rattle.mlsign_engine.specs.Commands.{FailsPrivate, HasNoKeysOrMemory, IsSigned, Judges, FilesBelong, MadeFilesBelong}
 use Rattle.mlsign_engine.specs.Forms.{IsRaw, IsPublicIn, IsPrivateIn, read_as, HasPublic, HasPrivate, public_in, private_in, ConvertsPrivate}
-use Rattle.mlsign_engine.specs.InnerSteps.{HasNoKeysOrMemory}
 use Rattle.mlsign_engine.specs.Keys.{PublicValue, PairValue}
 use Rattle.mlsign_engine.specs.declared.fault.CommandFault.{CommandFault}
 use Rattle.mlsign_engine.specs.declared.fault.CommandFault.TheVariants.{Key, Inconsistent, Library, Context, Memory, Message, NoSeed, TwoParts}

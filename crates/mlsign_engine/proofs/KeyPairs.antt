@@ -26,8 +26,8 @@ use Rattle.fips204_shake.specs.declared.bytes.refusal.Refusal.{Refusal}
 use Rattle.fips204_shake.specs.declared.bytes.refusal.Refusal.TheVariants as refusal
 use Rattle.fips204_shake.specs.Fronts.{shake256_front, shake128_front, length-shake256_front}
 use Rattle.fips204_shake.specs.Keys.{FileParts, Seed, Expanded, Both, HasPrivateSizes}
-use Rattle.mlsign_engine.specs.Commands.{HasNoKeys, IsRefused, FailsToGenerate, IsValid, IsValidUnder, IsSigned, CannotSign, SignedIsValid}
-use Rattle.mlsign_engine.specs.InnerSteps.{HasPrivateBytes, HasNoKeysOrMemory}
+use Rattle.mlsign_engine.specs.Commands.{HasNoKeys, HasNoKeysOrMemory, IsRefused, FailsToGenerate, IsValid, IsValidUnder, IsSigned, CannotSign, SignedIsValid}
+use Rattle.mlsign_engine.specs.InnerSteps.{HasPrivateBytes}
 use Rattle.mlsign_engine.specs.Keys.{HasKeys, HasBytes}
 use Rattle.mlsign_engine.specs.declared.fault.CommandFault.TheVariants.{Key, Inconsistent, Library, Context, Memory, Message, NoSeed, TwoParts}
 use Rattle.mlsign_engine.specs.declared.fault.CommandFault.{CommandFault}
@@ -94,19 +94,15 @@ seed_written p law known seed public public' private private' answer seed_size f
 -- the key of a seed is consistent, or an error
 pub generating_fails : (algorithm : SetName) (law : SignedIsAccepted) (seed : List ℕ) (fault : CommandFault)
     → HasNoKeysOrMemory (named_set algorithm) (Seed seed) fault → FailsToGenerate algorithm seed fault
-generating_fails algorithm law seed (Key fault) fails = fails
-generating_fails algorithm law seed (Library fault) fails = fails
-generating_fails algorithm law seed Context fails = fails
-generating_fails algorithm law seed Memory fails = fails
-generating_fails algorithm law seed Message fails = fails
-generating_fails algorithm law seed NoSeed fails = fails
-generating_fails algorithm law seed TwoParts fails = fails
-generating_fails algorithm law seed Inconsistent (none, taken) =
-    case_of (generated (named_set algorithm) shake256_front shake128_front seed) refl
+generating_fails algorithm law seed fault fails = (
+  fails,
+  λ is. case_of (subst (HasNoKeysOrMemory (named_set algorithm) (Seed seed)) is fails) (generated (named_set algorithm) shake256_front shake128_front seed) refl,
+)
   where
-    case_of : (made : Result (PublicParts × PrivateParts) Fault) → generated (named_set algorithm) shake256_front shake128_front seed ≡ made → ⊥
-    case_of (Ok (pk, sk)) is = none pk sk (keys_of_seed (named_set algorithm) law (known_set algorithm) seed pk sk is)
-    case_of (Err fault) is = taken fault is
+    case_of : HasNoKeys (named_set algorithm) (Seed seed) Inconsistent → (made : Result (PublicParts × PrivateParts) Fault)
+        → generated (named_set algorithm) shake256_front shake128_front seed ≡ made → ⊥
+    case_of (none, taken) (Ok (pk, sk)) is = none pk sk (keys_of_seed (named_set algorithm) law (known_set algorithm) seed pk sk is)
+    case_of (none, taken) (Err fault) is = taken fault is
 
 one_private : (p : ParameterSet) (law : BytesTellKeys p) (key : List ℕ) (a b : PrivateParts)
     → IsPrivateKeyOf p.eta p.k p.l key a → IsPrivateKeyOf p.eta p.k p.l key b → a ≡ b

@@ -61,6 +61,11 @@ HasNoKeys p parts Inconsistent = ((pk : PublicParts) (sk : PrivateParts) → ¬ 
 HasNoKeys p parts (Library fault) = IsRefused p parts fault
 HasNoKeys p parts fault = ⊥
 
+-- there are no keys, or memory ran out
+abbrev pub HasNoKeysOrMemory : ParameterSet → FileParts → CommandFault → Type 0
+HasNoKeysOrMemory p parts Memory = Unit {0}
+HasNoKeysOrMemory p parts fault = HasNoKeys p parts fault
+
 -- why a file's private key is not had: the file's first fault, or why the key in it has no keys; memory may run out of itself
 abbrev pub FailsPrivate : Form → SetName → List ℕ → CommandFault → Type 0
 FailsPrivate form set file (Key fault) = FailsLike fault (private_in form set file)
@@ -129,11 +134,9 @@ pub record MakesTexts (form : Form) (algorithm : SetName) (seed private public :
   pub private_file : IsPrivateIn form private algorithm (Seed seed)
   pub public_file : IsPublicIn form public algorithm public_bytes
 
--- why `keygen` has no keys: the library's error; memory may run out of itself
+-- why `keygen` has no keys: why the seed has none, but never that its keys are inconsistent; memory may run out of itself
 abbrev pub FailsToGenerate : SetName → List ℕ → CommandFault → Type 0
-FailsToGenerate algorithm seed (Library fault) = IsRefused (named_set algorithm) (Seed seed) fault
-FailsToGenerate algorithm seed Memory = Unit {0}
-FailsToGenerate algorithm seed fault = ⊥
+FailsToGenerate algorithm seed fault = HasNoKeysOrMemory (named_set algorithm) (Seed seed) fault × ¬ (fault ≡ Inconsistent)
 
 -- what a consistent private key signed, its public key accepts
 abbrev pub SignedIsValid : Type 0

@@ -2,10 +2,7 @@
 use Rattle.std.specs.Prelude.{◌≡◌, List, ℕ, length}
 use Rattle.fips204.specs.Encodings.{PublicParts, PrivateParts, private_key_bytes}
 use Rattle.fips204.specs.ParameterSets.{ParameterSet, private_key_length}
-use Rattle.mlsign_engine.specs.Commands.{HasNoKeys}
 use Rattle.mlsign_engine.specs.Keys.{HasKeys}
-use Rattle.mlsign_engine.specs.declared.fault.CommandFault.{CommandFault}
-use Rattle.mlsign_engine.specs.declared.fault.CommandFault.TheVariants.{Memory}
 use Rattle.fips204_shake.specs.Keys.{FileParts}
 
 -- the bytes are those of the private one of a file's keys
@@ -15,8 +12,3 @@ pub record HasPrivateBytes (p : ParameterSet) (parts : FileParts) (bytes : List 
   pub keys : HasKeys p parts pk sk
   pub is : bytes ≡ private_key_bytes p.eta sk
   pub size : length bytes ≡ private_key_length p
-
--- there are no keys, or memory ran out
-abbrev pub HasNoKeysOrMemory : ParameterSet → FileParts → CommandFault → Type 0
-HasNoKeysOrMemory p parts Memory = Unit {0}
-HasNoKeysOrMemory p parts fault = HasNoKeys p parts fault

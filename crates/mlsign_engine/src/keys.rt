@@ -5,7 +5,8 @@ ghost use Rattle.std.specs.Prelude.{◌≡◌, ◌≤◌, length, take, drop, If
 ghost use Rattle.fips204.specs.Sets.{named_set};
 ghost use Rattle.fips204_shake.specs.Fronts.{shake256_front};
 ghost use Rattle.mlsign_engine.specs.Keys.{HasBytes, IsConsistent, public_of_pair};
-ghost use Rattle.mlsign_engine.specs.InnerSteps.{HasPrivateBytes, HasNoKeysOrMemory};
+ghost use Rattle.mlsign_engine.specs.Commands.{HasNoKeysOrMemory};
+ghost use Rattle.mlsign_engine.specs.InnerSteps.{HasPrivateBytes};
 ghost use Rattle.mlsign_engine.specs.declared.fault.CommandFault.TheVariants.{Memory};
 ghost use Rattle.fips204_shake.specs.Keys.{Seed, Expanded, HasPrivateSizes, private_length, public_length, file_parts};
 

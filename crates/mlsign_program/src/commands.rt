@@ -60,7 +60,7 @@ pub(crate) fn keygen(rt: &HostRuntime, words: &ArgMatches<'_>) -> Result<(), Err
     let public = target(words, "public", Content::PublicKey)?;
     let private = Output::find(rt, private, &[])?;
     let public = Output::find(rt, public, &[])?;
-    if private.is_same(&public) {
+    if private.is_same(rt, &public) {
         let path = word(words, "private")?;
         return Err(about(
             path,
@@ -116,7 +116,7 @@ pub(crate) fn open<'a>(
     Ok(Progress::new(rt, Either::Left(file), shows, size))
 }
 
-/// An error if two names stand for one pipe or device, of which each byte can be read only once.
+/// An error if two names stand for one pipe or device, since each of its bytes can be read only once.
 pub(crate) fn check_apart(rt: &HostRuntime, one: &str, other: &str) -> Result<(), Error> {
     if one == STANDARD && other == STANDARD {
         bail!("{STANDARD}: standard input can be only one of the files");
@@ -127,7 +127,7 @@ pub(crate) fn check_apart(rt: &HostRuntime, one: &str, other: &str) -> Result<()
     if !first.is_file() && FileId::of(&first) == FileId::of(&second) {
         return Err(about(
             one,
-            format_args!("it is {other} too, and can be only one of the files"),
+            format_args!("it is the same pipe or device as {other}"),
         ));
     }
     Ok(())
@@ -167,12 +167,17 @@ pub(crate) fn signature_path(
 /// Signs messages. Nothing is signed if a signature cannot go to its place.
 pub(crate) fn sign(rt: &HostRuntime, words: &ArgMatches<'_>) -> Result<(), Error> {
     let private = word(words, "private")?;
-    let messages = words.get_strs("message").context("a word is missing")?;
+    let messages = words
+        .get_strs("message")
+        .context("the argument MESSAGE is missing")?;
     let ids = ids_of(rt, messages)?;
     let ids = ids.as_slice();
     for id in ids_of(rt, &[private])? {
         if ids.contains(&id) {
-            return Err(about(private, "it is the message too, and a key is none"));
+            return Err(about(
+                private,
+                "the message is the private key itself, which is never signed",
+            ));
         }
     }
     for message in messages {
@@ -180,16 +185,43 @@ pub(crate) fn sign(rt: &HostRuntime, words: &ArgMatches<'_>) -> Result<(), Error
     }
     let key = KeyFile::read(rt, words, private, Some(Kind::Private))?;
     if messages.len() > 1 {
-        for message in messages {
-            let path = signature_path(rt.alloc(), words, "out", message)?;
-            let _ = Output::find(rt, signature_at(words, path.as_str()), ids)?;
-        }
+        check_signatures(rt, words, messages, ids)?;
     }
     let signing = key.signing_key(rt.alloc())?;
     for message in messages {
         sign_message(rt, words, &key, &signing, message, ids)?;
     }
     note_read(rt, private);
+    Ok(())
+}
+
+/// An error if a signature of several messages cannot go to its place, or has the same file as another message's.
+fn check_signatures(
+    rt: &HostRuntime,
+    words: &ArgMatches<'_>,
+    messages: &[&str],
+    ids: &[FileId],
+) -> Result<(), Error> {
+    let mut replaced = Vec::new(rt.alloc());
+    for (message, id) in messages.iter().zip(ids) {
+        let path = signature_path(rt.alloc(), words, "out", message)?;
+        let output = Output::find(rt, signature_at(words, path.as_str()), ids)?;
+        let Some(file) = output.replaced() else {
+            continue;
+        };
+        for (other_file, other_id, other) in &replaced {
+            // (a message that the call names twice is signed twice)
+            if *other_file == file && *other_id != *id {
+                return Err(about(
+                    path.as_str(),
+                    format_args!("it is the same file as the signature of {other}"),
+                ));
+            }
+        }
+        replaced
+            .push((file, *id, *message))
+            .map_err(io::Error::from)?;
+    }
     Ok(())
 }
 

@@ -23,7 +23,10 @@ use std::alloc::Global;
 pub(crate) fn word<'a>(words: &ArgMatches<'a>, name: &str) -> Result<&'a str, Error>
     ensures { IfOk result (λ text. HasWord words.now name.now text.now) }
 {
-    words.get_str(name).context("a word is missing")
+    match words.get_str(name) {
+        Some(text) => Ok(text),
+        None => bail!("the argument {name} is missing"),
+    }
 }
 
 /// The set that a word names.

@@ -12,17 +12,19 @@ ghost use Rattle.mlsign_program.specs.declared.places.Content.TheVariants.{Priva
 ghost use Rattle.mlsign_program.specs.Outputs.{Holds};
 
 use crate::files::{note_open, read_start};
-use crate::labels::{has_private_label, is_other_private_key};
+use crate::labels::{has_private_label, is_other_private_key, labels_private};
 use crate::text::{about, note};
 use anyhow::{Context, Error};
 use fips204_shake::der::read_private;
 use mlsign_engine::pem::Kind;
 use mlsign_engine::{KeyFiles, kind_of_text};
 use std::alloc::AllocError;
-use std::fs::{self, File, Metadata, OpenFile, OpenOptions};
+use std::fs::{self, File, Metadata, OpenFile, OpenOptions, TryLockError};
 use std::io::{self, ErrorKind, Write};
 use std::os::unix::fs::{FileTypeExt, MetadataExt, OpenOptionsExt};
 use std::random::RandomSource;
+use std::thread;
+use std::time::Duration;
 
 /// What a file that is written has.
 #[derive(Debug, Clone, Copy, PartialEq, Eq)]
@@ -111,11 +113,29 @@ impl<'a> Output<'a> {
     }
 
     /// Whether two files are one.
-    pub(crate) fn is_same(&self, other: &Output<'_>) -> bool {
+    pub(crate) fn is_same(&self, rt: &HostRuntime, other: &Output<'_>) -> bool {
         match (&self.place, &other.place) {
             (Place::Taken(_, one), Place::Taken(_, another)) => one == another,
             (Place::Free, Place::Free) => self.target.path == other.target.path,
+            (Place::Taken(_, id), Place::Standard) => is_at(rt, STANDARD_OUTPUT, *id),
+            (Place::Standard, Place::Taken(_, id)) => is_at(rt, STANDARD_OUTPUT, *id),
             _ => false,
+        }
+    }
+
+    /// The file that it replaces.
+    pub(crate) fn replaced(&self) -> Option<FileId> {
+        match self.place {
+            Place::Taken(_, id) => Some(id),
+            _ => None,
+        }
+    }
+
+    /// The folder of the file, if it is one.
+    fn folder(&self) -> Option<&str> {
+        match self.place {
+            Place::Standard | Place::Stream(_) => None,
+            _ => Some(folder_of(self.name())),
         }
     }
 
@@ -169,13 +189,14 @@ impl<'a> Output<'a> {
     fn beside<'b>(&self, rt: &'b HostRuntime, bytes: &[u8]) -> io::Result<New<'b>>
         requires holds { Holds self.now.target.content bytes.now }
     {
-        let folder = open_folder(rt, self.name())?;
+        let folder = File::open(rt, folder_of(self.name()))?;
         let name = name_beside(rt, self.name(), "new")?;
         let mut file = create(rt, name.as_str(), self.target.content.mode())?;
         let file_beside = Beside::new(rt, name);
         file.write_all(bytes)?;
         file.sync_all()?;
         Ok(New {
+            id: FileId::of(&file.metadata()?),
             file: file_beside,
             folder,
             kept: None,
@@ -246,17 +267,19 @@ impl<'a> Output<'a> {
         };
         let mut file = OpenOptions::new().write(true).open(rt, self.target.path)?;
         let opened = file.metadata()?;
-        if FileId::of(&opened) != *id {
-            return Err(changed());
-        }
+        check_unchanged(&opened, *id)?;
         if self.target.content == Content::PrivateKey && is_pipe_of_another(rt, &opened) {
             return Err(of_another());
         }
         file.write_all(bytes)
     }
 
-    /// Undoes `put`.
+    /// Undoes `put`, unless another program has put its own file there since.
     fn undo(&self, rt: &HostRuntime, new: &mut New<'_>) {
+        match fs::symlink_metadata(rt, self.name()) {
+            Ok(found) if FileId::of(&found) != new.id => return,
+            _ => {}
+        }
         match (&self.place, &mut new.kept) {
             (Place::Taken(name, _), Some(kept)) => {
                 let done = fs::rename(rt, kept.name.as_str(), name.as_str());
@@ -265,7 +288,7 @@ impl<'a> Output<'a> {
                     note(
                         rt,
                         kept.name.as_str(),
-                        "has what was replaced, and could not be put back",
+                        "holds the previous file, which could not be restored",
                     );
                 }
             }
@@ -280,6 +303,8 @@ impl<'a> Output<'a> {
 struct New<'a> {
     /// It, beside its place.
     file: Beside<'a>,
+    /// Which file it is.
+    id: FileId,
     /// The folder of both.
     folder: File,
     /// The file that it replaces, under another name.
@@ -299,9 +324,9 @@ fn create(rt: &HostRuntime, name: &str, mode: u32) -> io::Result<File> {
 }
 
 /// The folder of a file.
-fn open_folder(rt: &HostRuntime, path: &str) -> io::Result<File> {
+fn folder_of(path: &str) -> &str {
     let (folder, _) = split(path);
-    File::open(rt, if folder.is_empty() { "." } else { folder })
+    if folder.is_empty() { "." } else { folder }
 }
 
 /// Syncs a folder. There are file systems that cannot.
@@ -314,23 +339,35 @@ fn sync(folder: &File) -> io::Result<()> {
 
 /// A second name beside this one for the file that was found under it. A file system without links gets a copy.
 fn kept<'a>(rt: &'a HostRuntime, name: &str, id: FileId) -> io::Result<Beside<'a>> {
-    if FileId::of(&fs::metadata(rt, name)?) != id {
-        return Err(changed());
-    }
     let second = name_beside(rt, name, "old")?;
     if fs::hard_link(rt, name, second.as_str()).is_ok() {
-        return Ok(Beside::new(rt, second));
+        let beside = Beside::new(rt, second);
+        check_unchanged(&fs::symlink_metadata(rt, beside.name.as_str())?, id)?;
+        return Ok(beside);
     }
+    let mut file = File::open(rt, name)?;
+    check_unchanged(&file.metadata()?, id)?;
     let mut copy = create(rt, second.as_str(), 0o600)?;
     let beside = Beside::new(rt, second);
-    io::copy(&mut File::open(rt, name)?, &mut copy)?;
+    io::copy(&mut file, &mut copy)?;
     copy.sync_all()?;
     Ok(beside)
 }
 
-/// The error of a file that is not the one that was found.
-fn changed() -> io::Error {
-    io::Error::other("it was changed while this program ran")
+/// An error if what is there now is not the file that was found.
+fn check_unchanged(now: &Metadata, id: FileId) -> io::Result<()> {
+    if FileId::of(now) != id {
+        return Err(io::Error::other("it was changed while this program ran"));
+    }
+    Ok(())
+}
+
+/// Whether this file is at a name.
+fn is_at(rt: &HostRuntime, name: &str, id: FileId) -> bool {
+    match fs::metadata(rt, name) {
+        Ok(found) => FileId::of(&found) == id,
+        Err(_) => false,
+    }
 }
 
 /// The error of a pipe that is another user's.
@@ -379,9 +416,9 @@ fn replace_pair(
     requires keys { (form : Form) × (algorithm : SetName) × (seed : List ℕ) × MakesTexts form algorithm seed keys.now.private.items keys.now.public.items }
 {
     let (public_text, private_text) = (keys.public.as_slice(), keys.private.as_slice());
+    let _lock = lock(rt, public, private)?;
     let mut public_new = public.prepare(rt, public_text)?;
     let mut private_new = private.prepare(rt, private_text)?;
-    let _lock = lock(private_new.as_ref(), public_new.as_ref());
     public.keep(rt, public_new.as_mut())?;
     private.keep(rt, private_new.as_mut())?;
     public.put(rt, public_new.as_mut(), public_text)?;
@@ -394,14 +431,35 @@ fn replace_pair(
     done
 }
 
-/// Waits until no other run writes a pair in this folder, where the file system can tell: two at once could leave a key of each, or
-/// one could undo what the other has put there.
-fn lock(private: Option<&New<'_>>, public: Option<&New<'_>>) -> Option<File> {
-    let new = private.or(public)?;
-    let folder = new.folder.try_clone().ok()?;
-    let _ = folder.lock();
-    Some(folder)
+/// Locks the folder of the private key, or of the public key if that alone goes to a file, if the file system can: two runs that
+/// replace a pair at once could leave one key of each. It waits for another program's lock only if a file is replaced, and gives up
+/// after five seconds. A run that replaces no file goes on without the lock, because a link never replaces one.
+fn lock(
+    rt: &HostRuntime,
+    public: &Output<'_>,
+    private: &Output<'_>,
+) -> Result<Option<File>, Error> {
+    let Some(name) = private.folder().or(public.folder()) else {
+        return Ok(None);
+    };
+    let folder = File::open(rt, name).context(name)?;
+    let replaces = private.replaced().or(public.replaced()).is_some();
+    for _count in 0..TRIES {
+        match folder.try_lock() {
+            Err(TryLockError::WouldBlock) if replaces => {
+                thread::sleep(rt, Duration::from_millis(PAUSE));
+            }
+            _ => return Ok(Some(folder)),
+        }
+    }
+    Err(about(name, "another program has locked the folder"))
 }
+
+/// How often a lock is tried.
+const TRIES: u64 = 50;
+
+/// How long a run waits before it tries a lock again, in milliseconds.
+const PAUSE: u64 = 100;
 
 impl Target<'_> {
     /// What is there, if that may be replaced.
@@ -467,13 +525,16 @@ impl Target<'_> {
         }
         let start = read_start(rt, path)?;
         let start = start.as_slice();
-        if self.content != Content::PrivateKey {
-            if is_private_key(start) || has_private_label(rt, path).context(path)? {
-                return Err(about(path, "it has a private key, which is not replaced"));
-            }
+        let guarded = self.content != Content::PrivateKey;
+        if guarded && (is_private_key(start) || labels_private(start)) {
+            return Err(private_stays(path));
         }
         if !self.force && !self.may_replace(start) {
             return Err(about(path, "it is there already, and only --force replaces it"));
+        }
+        // (what is refused is not read to its end)
+        if guarded && has_private_label(rt, path).context(path)? {
+            return Err(private_stays(path));
         }
         if found.permissions().readonly() {
             return Err(about(path, "it is read-only, and is not replaced"));
@@ -493,6 +554,11 @@ impl Target<'_> {
             Content::Signature => bytes.is_empty() || is_signature(bytes),
         }
     }
+}
+
+/// The error of a private key that something else would replace.
+fn private_stays(path: &str) -> Error {
+    about(path, "it has a private key, which is not replaced")
 }
 
 /// Whether a file with these bytes is taken for a private key: its text says so, or it has one in DER or in raw bytes.
@@ -588,8 +654,7 @@ fn tell_left(rt: &HostRuntime, path: &str) -> io::Result<()> {
     let (folder, last) = split(path);
     let mut start = String::new(rt.alloc());
     push_start(&mut start, last)?;
-    let read = if folder.is_empty() { "." } else { folder };
-    for entry in fs::read_dir(rt, read)? {
+    for entry in fs::read_dir(rt, folder_of(path))? {
         let entry = match entry {
             Ok(entry) => entry,
             // A name that is no UTF-8 is none of these files.

@@ -1,7 +1,13 @@
 //! Lists of sums, as `sha256sum` writes them.
 #![tactic(auto)]
 
+ghost use Rattle.std.specs.Prelude.{◌≡◌, ◌↔◌, ℕ, List, [], ◌∷◌, ◌++◌, IfOk, IfSome, IsTrue, true, codes, All, string_bytes};
+ghost use Rattle.sha2.specs.Sha256.{sha256};
+ghost use Rattle.mlsign_program.specs.Outputs.{LacksFlag};
+ghost use Rattle.mlsign_program.specs.Sums.{AreFilesGood, GaveAll, HasFound, IsLineOf, IsListOf, IsListed, IsSumOf, IsWritten, escape_front, is_escaped, written};
+
 use crate::commands::open;
+use crate::files::STANDARD;
 use crate::text::{about, printable};
 use crate::verify::{
     Ends, TrustedKey, accepts_list, read_signature, say_invalid, say_valid, tell_keys,
@@ -22,20 +28,24 @@ const PIECE: usize = 65536;
 /// A line of a list.
 #[derive(Drop)]
 struct Sum<'a> {
-    /// The SHA-256 of the file, as 64 hexadecimal digits.
+    /// The SHA-256 of the file, as 64 hexadecimal digits in lower case.
     digits: &'a str,
     /// The file's name.
     name: String,
 }
 
-/// Whether one of the keys accepts the signature of a list, and each file of the list has its sum. The list is read once, so what was
-/// signed is what is looked at. No file is looked at if the list's signature is invalid.
+/// Whether one of the keys accepts the signature of a list, and these files have their sums in it, or all files of the
+/// list if the call names none. The list is read once, so what was signed is what is looked at. No file is looked at if
+/// the list's signature is invalid.
 pub(crate) fn verify_sums(
     rt: &HostRuntime,
     words: &ArgMatches<'_>,
     keys: &mut [TrustedKey<'_>],
     path: &str,
-) -> Result<bool, Error> {
+    files: &[&str],
+) -> Result<bool, Error>
+    ensures { IfOk result (λ good. good ≡ true → AreFilesGood words.now keys.old files.now) }
+{
     let signature = read_signature(rt, words, path)?;
     let signature = signature.as_slice();
     let list = read_list(rt, words, path)?;
@@ -45,7 +55,12 @@ pub(crate) fn verify_sums(
             key.accept();
             say_valid(rt, words, key, path, true)?;
             tell_keys(rt, words, keys)?;
-            return check_files(rt, words, path, list);
+            let sums = read_sums(rt.alloc(), path, list)?;
+            let sums = sums.as_slice();
+            if files.is_empty() {
+                return check_all(rt, words, path, sums);
+            }
+            return check_named(rt, words, sums, files);
         }
     }
     say_invalid(rt, keys, path, true, signature.len())?;
@@ -64,19 +79,17 @@ fn read_list(rt: &HostRuntime, words: &ArgMatches<'_>, path: &str) -> Result<Vec
 }
 
 /// Whether each file of a list has its sum. Each has a line.
-fn check_files(
+fn check_all(
     rt: &HostRuntime,
     words: &ArgMatches<'_>,
     path: &str,
-    list: &[u8],
-) -> Result<bool, Error> {
-    let Ok(text) = str::from_utf8(list) else {
-        return Err(about(path, "the list is not UTF-8"));
-    };
-    let sums = sums_of(rt.alloc(), path, text)?;
+    sums: &[Sum<'_>],
+) -> Result<bool, Error>
+    ensures { LacksFlag words.now (codes "ignore-missing") → IfOk result (λ good. good ≡ true → All HasFound sums.now) }
+{
     let mut ends = Ends::new(sums.len());
     let mut found = 0usize;
-    for sum in &sums {
+    for sum in sums {
         let end = check_file(rt, sum);
         if words.get_flag("ignore-missing") && is_missing(&end) {
             continue;
@@ -91,84 +104,202 @@ fn check_files(
     ends.worst()
 }
 
-/// The sums of a list. Every line has one.
-fn sums_of<'a>(alloc: Global, path: &str, text: &'a str) -> Result<Vec<Sum<'a>>, Error> {
-    let mut sums = Vec::new(alloc);
-    for line in text.lines() {
-        let Some(sum) = sum_of(alloc, line)? else {
-            return Err(about(path, "it is no list of `sha256sum`"));
-        };
-        sums.push(sum).map_err(io::Error::from)?;
+/// Whether each of these files is in the list, and has its sum. Each has a line.
+fn check_named(
+    rt: &HostRuntime,
+    words: &ArgMatches<'_>,
+    sums: &[Sum<'_>],
+    files: &[&str],
+) -> Result<bool, Error>
+    ensures { IfOk result (λ good. good ≡ true → All (λ file. IsListed sums.now file.now) files.now) }
+{
+    let mut ends = Ends::new(files.len());
+    for file in files {
+        let end = check_listed(rt, words, sums, file);
+        ends.count(rt, end)?;
+    }
+    ends.worst()
+}
+
+/// Whether a list has this name, and the file each sum of it.
+fn check_listed(
+    rt: &HostRuntime,
+    words: &ArgMatches<'_>,
+    sums: &[Sum<'_>],
+    file: &str,
+) -> Result<bool, Error>
+    ensures { IfOk result (λ good. good ≡ true → IsListed sums.now file.now) }
+{
+    let mut is_listed = false;
+    for sum in sums {
+        if sum.name.as_str() != file {
+            continue;
+        }
+        is_listed = true;
+        let end = check_file(rt, sum);
+        if !tell(rt, words, sum, end)? {
+            return Ok(false);
+        }
+    }
+    if !is_listed {
+        let name = printable(rt.alloc(), file).map_err(io::Error::from)?;
+        let _ = rt.eprintln(format_args!("mlsign: {name}: it is not in the list"));
+    }
+    Ok(is_listed)
+}
+
+/// The sums of a list.
+fn read_sums<'a>(alloc: Global, path: &str, list: &'a [u8]) -> Result<Vec<Sum<'a>>, Error>
+    ensures { IfOk result (λ sums. IsListOf list.now sums.items) }
+{
+    let Ok(text) = str::from_utf8(list) else {
+        return Err(about(path, "the list is not UTF-8"));
+    };
+    let Some(sums) = sums_of(alloc, text)? else {
+        return Err(about(path, "it is no list of `sha256sum`"));
+    };
+    for sum in &sums {
+        if sum.name.as_str() == STANDARD {
+            return Err(about(path, "it has the sum of standard input, which is no file"));
+        }
     }
     Ok(sums)
 }
 
-/// The sum of a line: 64 hexadecimal digits, a blank, a blank or a star, and the file's name, which is escaped if a backslash comes first.
-fn sum_of<'a>(alloc: Global, line: &'a str) -> Result<Option<Sum<'a>>, Error> {
-    let (escaped, line) = match line.strip_prefix('\\') {
-        Some(line) => (true, line),
-        None => (false, line),
-    };
-    let Some((digits, rest)) = line.split_once(' ') else {
-        return Ok(None);
-    };
-    let Some(name) = rest.strip_prefix(' ').or(rest.strip_prefix('*')) else {
-        return Ok(None);
-    };
-    let hex = digits.bytes().all(|digit| digit.is_ascii_hexdigit());
-    if digits.len() != 64 || !hex || name.is_empty() {
+/// The sums of a text, if it is the lines that `sha256sum` writes for these, each with LF at its end.
+fn sums_of<'a>(alloc: Global, text: &'a str) -> io::Result<Option<Vec<Sum<'a>>>>
+    ensures { IfOk result (λ sums. IfSome sums (λ sums. IsListOf text.now sums.items)) }
+{
+    let mut sums = Vec::new(alloc);
+    let mut rest = text;
+    while let Some((line, after)) = rest.split_once('\n') {
+        let Some(sum) = sum_of(alloc, line)? else {
+            return Ok(None);
+        };
+        sums.push(sum)?;
+        rest = after;
+    }
+    if !rest.is_empty() || sums.is_empty() {
         return Ok(None);
     }
-    let name = if escaped {
-        unescaped(alloc, name)
-    } else {
-        String::from_str(alloc, name)
-    };
-    Ok(Some(Sum {
-        digits,
-        name: name.map_err(io::Error::from)?,
-    }))
+    Ok(Some(sums))
 }
 
-/// A name without its escapes: `\n`, `\r` and `\\`.
-fn unescaped(alloc: Global, name: &str) -> Result<String, std::alloc::AllocError> {
-    let mut plain = String::new(alloc);
+/// The sum of a line, if `sha256sum` writes such a line: a backslash if the name is escaped, 64 digits, a blank, a blank
+/// or a star, and the file's name.
+fn sum_of<'a>(alloc: Global, line: &'a str) -> io::Result<Option<Sum<'a>>>
+    ensures { IfOk result (λ sum. IfSome sum (λ sum. IsLineOf line.now sum.digits.now (string_bytes sum.name))) }
+{
+    let (escaped, rest) = behind_backslash(line);
+    let Some((digits, rest)) = rest.split_once(' ') else {
+        return Ok(None);
+    };
+    let Some(written) = rest.strip_prefix(' ').or(rest.strip_prefix('*')) else {
+        return Ok(None);
+    };
+    let are_digits = digits
+        .bytes()
+        .all(|digit| matches!(digit, b'0'..=b'9' | b'a'..=b'f'));
+    if digits.len() != 64 || !are_digits {
+        return Ok(None);
+    }
+    match plain_name(alloc, escaped, written)? {
+        Some(name) => Ok(Some(Sum { digits, name })),
+        None => Ok(None),
+    }
+}
+
+/// Whether a line begins with a backslash, and what stands behind it.
+fn behind_backslash(line: &str) -> (bool, &str)
+    ensures { line.now ≡ escape_front result.0 ++ result.1.now }
+{
+    match line.strip_prefix('\\') {
+        Some(rest) => (true, rest),
+        None => (false, line),
+    }
+}
+
+/// The name that `sha256sum` writes so, if it writes any so. It is escaped if and only if the name has a backslash, LF or
+/// CR.
+fn plain_name(
+    alloc: Global,
+    escaped: bool,
+    written: &str,
+) -> Result<Option<String>, std::alloc::AllocError>
+    ensures { IfOk result (λ name. IfSome name (λ name. IsWritten escaped written.now (string_bytes name))) }
+{
+    let mut name = String::new(alloc);
     let mut is_escape = false;
-    for character in name.chars() {
+    let mut has_escape = false;
+    for character in written.chars() {
         if !is_escape && character == '\\' {
             is_escape = true;
+            has_escape = true;
             continue;
         }
-        plain.push(match character {
-            'n' if is_escape => '\n',
-            'r' if is_escape => '\r',
-            other => other,
-        })?;
+        let Some(plain) = plain_character(is_escape, character) else {
+            return Ok(None);
+        };
+        name.push(plain)?;
         is_escape = false;
     }
-    Ok(plain)
+    if is_escape || has_escape != escaped || name.is_empty() {
+        return Ok(None);
+    }
+    Ok(Some(name))
+}
+
+/// The character of a name that is written so, behind a backslash or not, if any is.
+fn plain_character(is_escape: bool, character: char) -> Option<char>
+    ensures { IfSome result (λ plain. (is_escape ≡ is_escaped plain)
+        × (written plain ≡ escape_front is_escape ++ character ∷ [])) }
+{
+    if is_escape {
+        match character {
+            '\\' => Some('\\'),
+            'n' => Some('\n'),
+            'r' => Some('\r'),
+            _ => None,
+        }
+    } else if matches!(character, '\\' | '\n' | '\r' | '\0') {
+        None
+    } else {
+        Some(character)
+    }
 }
 
 /// Whether a file has its sum.
-fn check_file(rt: &HostRuntime, sum: &Sum<'_>) -> io::Result<bool> {
-    let digest = digest_of(rt, sum.name.as_str())?;
-    let digits = hex::encode(rt.alloc(), &digest)?;
-    Ok(digits.as_str().eq_ignore_ascii_case(sum.digits))
+fn check_file(rt: &HostRuntime, sum: &Sum<'_>) -> io::Result<bool>
+    ensures { IfOk result (λ has. (bytes : List ℕ) × (IsTrue has ↔ IsSumOf sum.now.digits.now bytes)) }
+{
+    let mut file = File::open(rt, sum.name.as_str())?;
+    has_sum(rt.alloc(), &mut file, sum.digits)
 }
 
-/// The SHA-256 of a file.
-fn digest_of(rt: &HostRuntime, path: &str) -> io::Result<[u8; 32]> {
-    let mut file = File::open(rt, path)?;
+/// Whether these digits are the SHA-256 of all that a reader gives.
+fn has_sum<R: Read>(alloc: Global, reader: &mut R, digits: &str) -> io::Result<bool>
+    ensures { IfOk result (λ has. (bytes : List ℕ) × GaveAll (R.remaining reader.old) (R.remaining reader.new) bytes
+        × (IsTrue has ↔ IsSumOf digits.now bytes)) }
+{
+    let digest = digest_of(reader)?;
+    Ok(hex::encode(alloc, &digest)?.as_str() == digits)
+}
+
+/// The SHA-256 of all that a reader gives.
+fn digest_of<R: Read>(reader: &mut R) -> io::Result<[u8; 32]>
+    ensures { IfOk result (λ digest. (bytes : List ℕ) × GaveAll (R.remaining reader.old) (R.remaining reader.new) bytes
+        × (digest ≡ sha256 bytes)) }
+{
     let mut hasher = Sha256::new();
     let mut piece = [0; PIECE];
     for _count in 0..u64::MAX {
-        let count = file.read(&mut piece)?;
+        let count = reader.read(&mut piece)?;
         if count == 0 {
-            break;
+            return Ok(hasher.finalize());
         }
         hasher.update(&piece[..count]);
     }
-    Ok(hasher.finalize())
+    Err(io::Error::from(ErrorKind::FileTooLarge))
 }
 
 /// Whether a file is not there.
@@ -185,7 +316,9 @@ fn tell(
     words: &ArgMatches<'_>,
     sum: &Sum<'_>,
     end: io::Result<bool>,
-) -> Result<bool, Error> {
+) -> Result<bool, Error>
+    ensures { IfOk result (λ has. end ≡ Ok has) }
+{
     let has = end.context(sum.name.as_str())?;
     let name = printable(rt.alloc(), sum.name.as_str()).map_err(io::Error::from)?;
     if !has {

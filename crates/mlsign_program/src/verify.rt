@@ -1,11 +1,12 @@
 //! Verifying messages.
 #![tactic(auto)]
 
-ghost use Rattle.std.specs.Prelude.{◌≡◌, ℕ, List, IfOk};
+ghost use Rattle.std.specs.Prelude.{◌≡◌, ◌↔◌, ℕ, List, IfOk, IsTrue, OnOk, true};
 ghost use Rattle.mlsign_engine.specs.Commands.{Judges};
 ghost use Rattle.mlsign_engine.specs.Forms.{HasPublic};
 ghost use Rattle.mlsign_engine.specs.Messages.{GivesAll};
 ghost use Rattle.mlsign_program.specs.Outputs.{context_of};
+ghost use Rattle.mlsign_program.specs.Sums.{AreAllGood};
 
 use crate::commands::{
     Message, check_apart, context, fingerprint_of, has_several, name_of, open, signature_path,
@@ -56,7 +57,9 @@ pub(crate) struct Ends {
 
 impl Ends {
     /// None is looked at yet.
-    pub(crate) fn new(all: usize) -> Ends {
+    pub(crate) fn new(all: usize) -> Ends
+        ensures { AreAllGood result }
+    {
         Ends {
             all,
             invalid: 0,
@@ -65,11 +68,9 @@ impl Ends {
     }
 
     /// Counts an end. An error ends the call if there is one message, and else has a line.
-    pub(crate) fn count(
-        &mut self,
-        rt: &HostRuntime,
-        end: Result<bool, Error>,
-    ) -> Result<(), Error> {
+    pub(crate) fn count(&mut self, rt: &HostRuntime, end: Result<bool, Error>) -> Result<(), Error>
+        ensures { OnOk result (AreAllGood self.new ↔ (AreAllGood self.old × (end ≡ Ok true))) }
+    {
         match end {
             Ok(true) => {}
             Ok(false) => self.invalid = self.invalid.saturating_add(1),
@@ -84,7 +85,9 @@ impl Ends {
     }
 
     /// The worst end.
-    pub(crate) fn worst(&self) -> Result<bool, Error> {
+    pub(crate) fn worst(&self) -> Result<bool, Error>
+        ensures { IfOk result (λ good. IsTrue good ↔ AreAllGood self.now) }
+    {
         if self.failed > 0 {
             let (failed, all) = (self.failed, self.all);
             bail!("{failed} of {all} files could not be checked");
@@ -93,20 +96,27 @@ impl Ends {
     }
 }
 
-/// Whether the signatures of all messages are valid, or the sums of a signed list. Which are, and the fingerprints of the keys that accept
+/// Whether the signatures of all messages are valid; or with `--sums` that of a list, which is the first message, and
+/// the sums of the other messages in it, or of all its files. Which are, and the fingerprints of the keys that accept
 /// them, goes to standard output unless the call says `--quiet`, and which are not to standard error.
 pub(crate) fn verify(rt: &HostRuntime, words: &ArgMatches<'_>) -> Result<bool, Error> {
-    let messages = words.get_strs("message").context("a word is missing")?;
-    if messages.len() > 1 && words.get_str("signature").is_some() {
+    let messages = words
+        .get_strs("message")
+        .context("the argument MESSAGE is missing")?;
+    let sums = words.get_flag("sums");
+    if messages.len() > 1 && !sums && words.get_str("signature").is_some() {
         bail!("--signature is for one message");
+    }
+    if messages.len() > 1 && words.get_flag("ignore-missing") {
+        bail!("--ignore-missing is for all files of a list");
     }
     let mut keys = keys_of(rt, words, messages)?;
     let keys = keys.as_mut_slice();
-    if words.get_flag("sums") {
-        let [list] = messages else {
-            bail!("--sums is for one list");
+    if sums {
+        let [list, files @ ..] = messages else {
+            bail!("--sums is for a list");
         };
-        return verify_sums(rt, words, keys, list);
+        return verify_sums(rt, words, keys, list, files);
     }
     let mut ends = Ends::new(messages.len());
     for message in messages {
@@ -124,7 +134,9 @@ fn keys_of<'a>(
     messages: &[&str],
 ) -> Result<Vec<TrustedKey<'a>>, Error> {
     let wanted = fingerprint(words)?;
-    let paths = words.get_strs("public").context("a word is missing")?;
+    let paths = words
+        .get_strs("public")
+        .context("the option --public is missing")?;
     let mut keys = Vec::new(rt.alloc());
     for (place, path) in paths.iter().enumerate() {
         for other in paths.iter().take(place) {
@@ -227,10 +239,7 @@ fn verify_message(
     let signature = read_signature(rt, words, message)?;
     let signature = signature.as_slice();
     if keys.len() > 1 && !metadata(rt, message).context(message)?.is_file() {
-        return Err(about(
-            message,
-            "it can be read only once, so it is verified by one public key",
-        ));
+        return Err(about(message, "it can be read only once: give one public key"));
     }
     let shown = has_several(words, "message");
     for key in keys.iter_mut() {
@@ -245,13 +254,16 @@ fn verify_message(
     Ok(false)
 }
 
-/// The signature of a message.
+/// The signature of a message, or of a list.
 pub(crate) fn read_signature(
     rt: &HostRuntime,
     words: &ArgMatches<'_>,
     message: &str,
 ) -> Result<Vec<u8>, Error> {
-    let path = signature_path(rt.alloc(), words, "signature", message)?;
+    let path = match words.get_str("signature") {
+        Some(path) => String::from_str(rt.alloc(), path).map_err(io::Error::from)?,
+        None => signature_path(rt.alloc(), words, "signature", message)?,
+    };
     check_apart(rt, path.as_str(), message)?;
     read_start(rt, path.as_str())
 }
@@ -342,11 +354,11 @@ pub(crate) fn say_invalid(
             let (wanted, set) = (key.set.signature_len(), name_of(key.set));
             let other = other_set(size);
             rt.eprintln(format_args!(
-                "mlsign: {front}the signature is invalid: it has not the {wanted} bytes of {set}{other}"
+                "mlsign: {front}the signature is invalid: it does not have the {wanted} bytes of {set}{other}"
             ))
         }
         [_] => rt.eprintln(format_args!(
-            "mlsign: {front}the signature is invalid: it, the message, the context or the key is another"
+            "mlsign: {front}the signature is invalid: it, the message, the context or the key is the wrong one"
         )),
         _ => rt.eprintln(format_args!(
             "mlsign: {front}the signature is invalid under each of the public keys"

@@ -53,17 +53,18 @@ fn sign<'a>(alloc: Global) -> Result<Command<'a>, AllocError> {
         .arg(der(alloc))?
         .arg(context(alloc))?
         .arg(deterministic)?
-        .arg(arg!(in alloc; -o --out <FILE> "Where the signature goes, if not to MESSAGE.sig"))?
-        .arg(force(alloc).help("Replace a file that is no signature"))?
+        .arg(arg!(in alloc; -o --out <FILE> "Where the signature goes [default: MESSAGE.sig]"))?
+        .arg(force(alloc).help("Overwrite an existing file that is no signature"))?
         .arg(quiet(alloc))?
         .arg(messages(alloc))
 }
 
 fn verify<'a>(alloc: Global) -> Result<Command<'a>, AllocError> {
-    let public = arg!(in alloc; -p --public <FILE> "The public key; if given again, any of them");
+    let public = arg!(in alloc; -p --public <FILE> "The public key; repeatable: any may match");
     let fingerprint =
         arg!(in alloc; --fingerprint <TEXT> "Take only a public key with this fingerprint");
-    let sums = arg!(in alloc; --sums "The message is a list of sha256sum, whose files are checked");
+    let sums =
+        arg!(in alloc; --sums "The first message is a list of sha256sum: check the others by it, or all in it");
     let missing = arg!(in alloc; --"ignore-missing" "Leave out files of the list that are missing");
     Command::new(alloc, "verify")
         .about("Verifies signatures of messages")
@@ -92,7 +93,7 @@ fn convert<'a>(alloc: Global) -> Result<Command<'a>, AllocError> {
     );
     let to = arg!(in alloc; --to <FORM> "The form of the key that is written").default_value("pem");
     let set = arg!(in alloc; --set <SET> "The parameter set of raw bytes, if they are a seed");
-    let parts = arg!(in alloc; --parts <PARTS> "What is written of a private key, if not all");
+    let parts = arg!(in alloc; --parts <PARTS> "Parts of the private key to write [default: all]");
     Command::new(alloc, "convert")
         .about("Writes a key in another form")
         .arg(from.value_parser(FORMS.as_slice()))?
@@ -126,7 +127,7 @@ fn der<'a>(alloc: Global) -> Arg<'a> {
 }
 
 fn force<'a>(alloc: Global) -> Arg<'a> {
-    arg!(in alloc; -f --force "Replace a file that is there")
+    arg!(in alloc; -f --force "Overwrite an existing file")
 }
 
 fn quiet<'a>(alloc: Global) -> Arg<'a> {

@@ -18,6 +18,7 @@ pub mod random;
 pub mod rt;
 pub mod string;
 pub mod test;
+pub mod thread;
 pub mod time;
 pub mod vec;
 

@@ -2,7 +2,7 @@
 
 use crate::rt::HostRuntime;
 use std::io::Result;
-use std::time::Duration;
+pub use std::time::Duration;
 
 #[derive(Clone, Copy)]
 pub struct Instant(std::time::Instant);

@@ -57,10 +57,10 @@ pub enum CommandFault {
     #[error("the message was not read")]
     Message,
     /// A private key has no seed, and the seed is wanted.
-    #[error("it has no seed: its seed cannot be had of its expanded key")]
+    #[error("it has no seed: an expanded key does not reveal its seed")]
     NoSeed,
-    /// A private key has a seed and an expanded key, and raw bytes are one of them.
-    #[error("it has a seed and an expanded key, and raw bytes are one of them")]
+    /// A private key has a seed and an expanded key, and raw bytes hold only one of them.
+    #[error("it holds a seed and an expanded key: choose one with --parts")]
     TwoParts,
 }
 

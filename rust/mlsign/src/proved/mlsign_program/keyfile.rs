@@ -16,7 +16,10 @@ use rattle_std::alloc::Global;
 
 /// The word of a call that has this name.
 pub(crate) fn word<'a>(words: &ArgMatches<'a>, name: &str) -> Result<&'a str, Error> {
-    words.get_str(name).context("a word is missing")
+    match words.get_str(name) {
+        Some(text) => Ok(text),
+        None => bail!("the argument {name} is missing"),
+    }
 }
 
 /// The set that a word names.

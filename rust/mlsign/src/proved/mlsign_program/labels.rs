@@ -41,7 +41,7 @@ fn end_of(bytes: &[u8]) -> &[u8] {
 }
 
 /// Whether these bytes have the first line of a private key's text.
-fn labels_private(bytes: &[u8]) -> bool {
+pub(crate) fn labels_private(bytes: &[u8]) -> bool {
     for start in 0..bytes.len() {
         if let Some(rest) = bytes[start..].strip_prefix(BEGIN) {
             if is_private_label(rest) {

@@ -67,7 +67,7 @@ fn unreadable(rt: &HostRuntime) -> Result<Error, Error> {
         };
         let word = &room[..size];
         if str::from_utf8(word).is_err() {
-            let word = try_format!(rt.alloc(); "{}: a word that is not UTF-8", word.escape_ascii());
+            let word = try_format!(rt.alloc(); "{}: this word is not UTF-8", word.escape_ascii());
             return Ok(Error::msg(word.map_err(io::Error::from)?));
         }
     }

@@ -1,0 +1,4 @@
+pub mod Checking
+pub mod Lines
+pub mod Names
+pub mod Reading
