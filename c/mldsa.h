@@ -1040,7 +1040,7 @@ static inline const char *mldsa_text(uint32_t status)
     case MLDSA_DER_KEY_LENGTH: return "its key has a wrong length";
     case MLDSA_OTHER_SET: return "its key is one of another parameter set";
     case MLDSA_INCONSISTENT: return "the private key is not consistent";
-    case MLDSA_NO_SEED: return "it has no seed: its seed cannot be had of its expanded key";
+    case MLDSA_NO_SEED: return "it has no seed: an expanded key does not reveal its seed";
     default: return "no answer of this library";
     }
 }

@@ -50,7 +50,7 @@ const TEXTS = {
     23: "its key has a wrong length",
     24: "its key is one of another parameter set",
     25: "the private key is not consistent",
-    26: "it has no seed: its seed cannot be had of its expanded key",
+    26: "it has no seed: an expanded key does not reveal its seed",
 };
 
 /** NIST's hash functions: the last byte of the object identifier of each, and the length of its digests. */

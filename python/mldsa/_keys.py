@@ -515,7 +515,7 @@ class PrivateKey(_Signer, _Unique):
             32
         """
         if self._seed is None:
-            raise ValueError("it has no seed: its seed cannot be had of its expanded key")
+            raise ValueError("it has no seed: an expanded key does not reveal its seed")
         return self._seed
 
     def expanded_bytes(self) -> bytes:

@@ -15,7 +15,7 @@ from mldsa import KeyFileError, load_der_private_key, load_der_public_key, load_
 
 KEYS = {number: PRIVATE[number].from_seed_bytes(SEED) for number in NUMBERS}
 ARC = {number: keyfiles.ARC[str(number)] for number in NUMBERS}
-NO_SEED = "it has no seed: its seed cannot be had of its expanded key"
+NO_SEED = "it has no seed: an expanded key does not reveal its seed"
 NOT_ONE = "its key is not one of ML-DSA-44, ML-DSA-65 or ML-DSA-87"
 
 

@@ -17,7 +17,7 @@ texts = codes "no error, or the answer yes" ∷ codes "no" ∷ codes "an array h
     ∷ codes "its DER is cut short" ∷ codes "more follows behind the end of its DER" ∷ codes "its DER is damaged"
     ∷ codes "it has a private key of another version" ∷ codes "its key is not one of ML-DSA-44, ML-DSA-65 or ML-DSA-87"
     ∷ codes "its key has a wrong length" ∷ codes "its key is one of another parameter set"
-    ∷ codes "the private key is not consistent" ∷ codes "it has no seed: its seed cannot be had of its expanded key" ∷ []
+    ∷ codes "the private key is not consistent" ∷ codes "it has no seed: an expanded key does not reveal its seed" ∷ []
 
 abbrev pub text_of : ℕ → List ℕ
 text_of number = slice_index_or texts number no_status

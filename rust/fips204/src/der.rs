@@ -20,7 +20,7 @@ const TEXTS: [&str; 9] = [
     "its key has a wrong length",
     "its key is one of another parameter set",
     "the private key is not consistent",
-    "it has no seed: its seed cannot be had of its expanded key",
+    "it has no seed: an expanded key does not reveal its seed",
 ];
 
 /// The text of a status that is no success.

@@ -84,7 +84,7 @@ macro_rules! tests_of_a_set {
                 }
                 let mut expanded = vec![0; PrivateKey::DER_LEN];
                 private.write_der(&mut expanded).unwrap();
-                let no_seed = "it has no seed: its seed cannot be had of its expanded key";
+                let no_seed = "it has no seed: an expanded key does not reveal its seed";
                 assert_eq!(PrivateKey::seed_from_der(&expanded), Err(no_seed.into()));
             }
 
