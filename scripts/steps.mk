@@ -1,7 +1,7 @@
 # The steps of `make test` and `make check`. Each is a target: the steps that it waits for, the tools without which it is
 # NOT RUN, and its command (scripts/gate runs it). `make NAME` runs one, with those that it waits for. Steps that begin
 # with `python` keep python/out to themselves.
-step = @nice -n 5 scripts/gate --step $@ '$^'
+step = @nice -n 15 scripts/gate --step $@ '$^'
 python = flock out/python.lock
 
 # Without the kit, over what cargo builds: what others wait for, and then the longest first.
