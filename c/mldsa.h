@@ -232,7 +232,8 @@ uint32_t mldsa44_accepts(const uint8_t *public_key, size_t public_key_len, const
 
 /** Signs the digest of a message that you hashed, under a context of at most 255 bytes (HashML-DSA). oid names the hash
  * function, as MLDSA_OID_SHA2_512 with MLDSA_OID_LEN. If it is one of the twelve that FIPS 204 names, the digest must have its
- * length; with another, at most 1024 bytes. random is that of sign.
+ * length; with another, at most 1024 bytes. Whether the function is strong enough for the set (FIPS 204, 5.4) is not checked.
+ * random is that of sign.
  * Needs MLDSA44_STACK_SIGN bytes of stack.
  * @return MLDSA_DONE, MLDSA_WRONG_LENGTH, MLDSA_KEY_RANGE, MLDSA_HASH_CONTEXT_TOO_LONG, MLDSA_OID_EMPTY, MLDSA_OID_NOT_DER,
  * MLDSA_DIGEST_TOO_LONG, MLDSA_DIGEST_LENGTH, MLDSA_SAMPLING_LIMIT, MLDSA_TOO_MANY_ATTEMPTS */
@@ -437,7 +438,8 @@ uint32_t mldsa65_accepts(const uint8_t *public_key, size_t public_key_len, const
 
 /** Signs the digest of a message that you hashed, under a context of at most 255 bytes (HashML-DSA). oid names the hash
  * function, as MLDSA_OID_SHA2_512 with MLDSA_OID_LEN. If it is one of the twelve that FIPS 204 names, the digest must have its
- * length; with another, at most 1024 bytes. random is that of sign.
+ * length; with another, at most 1024 bytes. Whether the function is strong enough for the set (FIPS 204, 5.4) is not checked.
+ * random is that of sign.
  * Needs MLDSA65_STACK_SIGN bytes of stack.
  * @return MLDSA_DONE, MLDSA_WRONG_LENGTH, MLDSA_KEY_RANGE, MLDSA_HASH_CONTEXT_TOO_LONG, MLDSA_OID_EMPTY, MLDSA_OID_NOT_DER,
  * MLDSA_DIGEST_TOO_LONG, MLDSA_DIGEST_LENGTH, MLDSA_SAMPLING_LIMIT, MLDSA_TOO_MANY_ATTEMPTS */
@@ -642,7 +644,8 @@ uint32_t mldsa87_accepts(const uint8_t *public_key, size_t public_key_len, const
 
 /** Signs the digest of a message that you hashed, under a context of at most 255 bytes (HashML-DSA). oid names the hash
  * function, as MLDSA_OID_SHA2_512 with MLDSA_OID_LEN. If it is one of the twelve that FIPS 204 names, the digest must have its
- * length; with another, at most 1024 bytes. random is that of sign.
+ * length; with another, at most 1024 bytes. Whether the function is strong enough for the set (FIPS 204, 5.4) is not checked.
+ * random is that of sign.
  * Needs MLDSA87_STACK_SIGN bytes of stack.
  * @return MLDSA_DONE, MLDSA_WRONG_LENGTH, MLDSA_KEY_RANGE, MLDSA_HASH_CONTEXT_TOO_LONG, MLDSA_OID_EMPTY, MLDSA_OID_NOT_DER,
  * MLDSA_DIGEST_TOO_LONG, MLDSA_DIGEST_LENGTH, MLDSA_SAMPLING_LIMIT, MLDSA_TOO_MANY_ATTEMPTS */
