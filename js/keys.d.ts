@@ -51,7 +51,7 @@ export function writePrivateKey(mlDsa: MlDsa, key: Uint8Array): string;
  * Computes the fingerprint of a public key's file, as `mlsign show` prints it: `SHA256:` and the SHA-256 of its DER in base64.
  * @example
  * (await fingerprint(sets, text)).slice(0, 7); // "SHA256:"
- * @throws `KeyFileError` and `TypeError` as with `readPublicKey`; `Error` if there is no `crypto.subtle`, as in a page
- * that came over http.
+ * @throws `KeyFileError` and `TypeError` as with `readPublicKey`; `Error` if there is no `crypto.subtle`: a page has it over
+ * https, from localhost or from a file.
  */
 export function fingerprint(sets: Sets, file: Uint8Array | string): Promise<string>;

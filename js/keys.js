@@ -197,7 +197,7 @@ export async function fingerprint(sets, file) {
     readPublicKey(sets, given);
     const subtle = (await webCrypto())?.subtle;
     if (!subtle) {
-        throw new Error("there is no crypto.subtle: pages have it from a file or over https");
+        throw new Error("there is no crypto.subtle: a page has it over https, from localhost or from a file");
     }
     const digest = new Uint8Array(await subtle.digest("SHA-256", derOf(given, PUBLIC)));
     return `SHA256:${btoa(String.fromCharCode(...digest)).replace(/=+$/, "")}`;

@@ -1,7 +1,12 @@
 // The example of the README, and those at each call in the types.
 import assert from "node:assert/strict";
-import { createHash, webcrypto } from "node:crypto";
+import { execFileSync } from "node:child_process";
+import { createHash } from "node:crypto";
+import { mkdirSync, mkdtempSync, rmSync, statSync, symlinkSync, writeFileSync } from "node:fs";
+import { tmpdir } from "node:os";
+import { join } from "node:path";
 import test from "node:test";
+import { fileURLToPath } from "node:url";
 import * as keys from "../keys.js";
 import * as all from "../mldsa.js";
 import { ofOpenssl, text, utf8 } from "./shared.js";
@@ -14,13 +19,14 @@ test("the example is a file, and prints that the signature is valid", async (t) 
     assert.deepEqual(printed.mock.calls.map((call) => call.arguments), [[true]]);
 });
 
-test("keys are written and read as the README shows", async () => {
-    const shown = [...text("js/README.md").matchAll(/^```js\n(.*?)^```$/gms)][1][1];
-    const [, imported, lines] = shown.match(/^import \{ (.*?) \} from "mldsa\/keys";\n(.*)$/s);
-    const names = { load: all.load, crypto: webcrypto, ...Object.fromEntries(imported.split(", ").map((it) => [it, keys[it]])) };
-    const Run = (async () => {}).constructor;
-    const { seed, key, owner } = await new Run(...Object.keys(names), `${lines} return { seed, key, owner };`)(...Object.values(names));
-    assert.deepEqual([key.set, key.seed, owner], [65, seed, { set: 65, publicKey: key.publicKey }]);
+test("the program of the README that keeps keys in files runs as it stands, and nobody else can read the private key", (t) => {
+    const room = mkdtempSync(join(tmpdir(), "mldsa-"));
+    t.after(() => rmSync(room, { recursive: true }));
+    mkdirSync(join(room, "node_modules"));
+    symlinkSync(fileURLToPath(new URL("..", import.meta.url)), join(room, "node_modules/mldsa"));
+    writeFileSync(join(room, "files.mjs"), [...text("js/README.md").matchAll(/^```js\n(.*?)^```$/gms)][1][1]);
+    assert.equal(execFileSync(process.execPath, ["files.mjs"], { cwd: room, encoding: "utf8" }), "true\n");
+    assert.equal(statSync(join(room, "release.pem")).mode & 0o777, 0o600);
 });
 
 /** Each call that a file of types declares, and the lines of its example. A line `CALL; // VALUE` says what it gives. */

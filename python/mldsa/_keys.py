@@ -7,8 +7,8 @@ import hashlib
 import os
 import secrets
 import threading
-from typing import (TYPE_CHECKING, Any, ClassVar, Dict, Iterator, NoReturn, Optional, Protocol, Tuple, Type, TypeVar,
-                    Union)
+from typing import (TYPE_CHECKING, Any, ClassVar, Dict, Iterator, Literal, NoReturn, Optional, Protocol, Tuple, Type,
+                    TypeVar, Union)
 
 from . import _files, _library
 from ._errors import InvalidSignature, KeyFileError, SigningError
@@ -22,13 +22,15 @@ else:
 
 
 class Readable(Protocol):
-    """A file that is open for reading bytes."""
+    """A file that is open for reading bytes, or anything else that reads so. If one can seek in it, it has to stand at
+    its beginning."""
 
     def read(self, size: int, /) -> bytes:
         """The next bytes, at most so many; none at the end."""
 
 
 File = Union[str, "os.PathLike[str]", Readable]
+Parts = Literal["seed", "expanded", "both"]
 _Private = TypeVar("_Private", bound="PrivateKey")
 _Public = TypeVar("_Public", bound="PublicKey")
 _LONGEST_CONTEXT = 255
@@ -84,20 +86,26 @@ def _done(status: int) -> None:
 
 
 def _pieces(file: File) -> Iterator[bytes]:
-    """A file from where it stands to its end, in pieces."""
+    """The contents of a file, in pieces. If one can seek in it, it has to stand at its beginning: what was read before
+    would be left out, and of a file that was read to its end nothing would be left."""
     if isinstance(file, (str, os.PathLike)):
         with open(file, "rb") as opened:
             yield from _pieces(opened)
         return
     if not hasattr(file, "read"):
         raise TypeError(f"a file is named by str or os.PathLike, or has read(), and is not {type(file).__name__}")
+    seekable, tell = getattr(file, "seekable", None), getattr(file, "tell", None)
+    place = tell() if tell and seekable and seekable() else 0
+    if place:
+        raise ValueError(f"the file stands at byte {place}, and not at its beginning: say seek(0), or take a hasher")
     while True:
         piece = file.read(_PIECE)
         if piece is None:
             raise BlockingIOError("the file has nothing to read yet")
-        if len(piece) == 0:
+        given = _bytes("what the file reads", piece)
+        if not given:
             return
-        yield _bytes("what the file reads", piece)
+        yield given
 
 
 class _Unique:
@@ -184,6 +192,14 @@ class _Key:
     _suffix: str
     # Begins a message in pieces.
     _BEGINS: ClassVar[str]
+    # That of the class, if it has one.
+    _SET: ClassVar[Optional[ParameterSet]] = None
+
+    @classmethod
+    def _set_of_class(cls) -> ParameterSet:
+        if cls._SET is None:
+            raise TypeError(f"a {cls.__name__} may be of any parameter set: take MLDSA65{cls.__name__}, or another's")
+        return cls._SET
 
     def _fill(self, set_: ParameterSet, plain: bytes, prepared: Optional[bytes] = None) -> None:
         self._set, self._plain, self._bytes = set_, plain, plain if prepared is None else prepared
@@ -199,7 +215,7 @@ class _Key:
         return self._set.calls[call + self._suffix](self._bytes, *arrays)
 
     def hasher(self, context: Optional[Buffer] = None) -> MessageHasher:
-        """Begins a message in pieces, under a context: a `MessageHasher`.
+        """Begins a message in pieces, under a context: a `MessageHasher`, whose `mu` is one of this key.
 
             >>> hasher = public.hasher(b"a context")
 
@@ -248,16 +264,18 @@ class _Signer(_Key):
         return self._signed("hash_sign", deterministic, given, _context(context), oid)
 
     def sign_file(self, file: File, context: Optional[Buffer] = None, *, deterministic: bool = False) -> bytes:
-        """Signs the contents of a file of any size, as `sign` does. You give its name, or the file open for reading.
+        """Signs the contents of a file of any size, as `sign` does. You give its name, or the file open for reading
+        bytes, at its beginning.
 
             >>> signature = key.sign_file("notes", b"a context")
 
-        Errors as with `sign`, and OSError if the file can't be read.
+        Errors as with `sign`, and ValueError if the file was read before, OSError if it can't be read.
         """
         return self.sign_mu(self.hasher(context)._add(_pieces(file)).mu(), deterministic=deterministic)
 
     def sign_mu(self, mu: Buffer, *, deterministic: bool = False) -> bytes:
-        """Signs the message that has this `mu` of 64 bytes, which a `MessageHasher` makes, as `sign` does.
+        """Signs the message that has this `mu` of 64 bytes, which a `MessageHasher` of this key makes, as `sign` does.
+        Nothing tells the `mu` of another key: it is signed, and no key accepts that for the message.
 
             >>> signature = key.sign_mu(key.hasher(b"a context").mu())
 
@@ -307,11 +325,12 @@ class _Verifier(_Key):
         self._verified("hash_verify", signature, given, _context(context), oid)
 
     def verify_file(self, signature: Buffer, file: File, context: Optional[Buffer] = None) -> None:
-        """Verifies the signature of the contents of a file. You give its name, or the file open for reading bytes.
+        """Verifies the signature of the contents of a file. You give its name, or the file open for reading bytes, at
+        its beginning.
 
             >>> public.verify_file(key.sign_file("notes"), "notes")
 
-        Errors as with `verify`, and OSError if the file can't be read.
+        Errors as with `verify`, and ValueError if the file was read before, OSError if it can't be read.
         """
         self.verify_mu(signature, self.hasher(context)._add(_pieces(file)).mu())
 
@@ -339,10 +358,9 @@ class PreparedPublicKey(_Verifier, _Unique):
 
 
 class PublicKey(_Verifier):
-    """A public key of any parameter set."""
+    """A public key of any parameter set. The classes of the sets, as MLDSA65PublicKey, make one."""
 
     __slots__ = ()
-    _SET: ClassVar[ParameterSet]
 
     def __init__(self) -> None:
         raise TypeError(f"a {type(self).__name__} is made by from_public_bytes()")
@@ -356,8 +374,8 @@ class PublicKey(_Verifier):
 
         TypeError if they are not bytes-like; ValueError if they have another length.
         """
-        made: _Public = object.__new__(cls)
-        made._fill(cls._SET, _sized("the public key", data, cls._SET.public_key))
+        made, set_ = object.__new__(cls), cls._set_of_class()
+        made._fill(set_, _sized("the public key", data, set_.public_key))
         return made
 
     def public_bytes_raw(self) -> bytes:
@@ -447,12 +465,12 @@ class PreparedPrivateKey(_Signer, _Unique):
 
 
 class PrivateKey(_Signer, _Unique):
-    """A private key of any parameter set. It is consistent: its public key accepts what it signs."""
+    """A private key of any parameter set. It is consistent: its public key accepts what it signs. The classes of the
+    sets, as MLDSA65PrivateKey, make one."""
 
     __slots__ = ("_seed", "_public")
     _seed: Optional[bytes]
     _public: bytes
-    _SET: ClassVar[ParameterSet]
 
     def __init__(self) -> None:
         raise TypeError(f"a {type(self).__name__} is made by generate(), from_seed_bytes() or from_expanded_bytes()")
@@ -474,11 +492,11 @@ class PrivateKey(_Signer, _Unique):
 
         TypeError if it is not bytes-like; ValueError if it has another length.
         """
-        made: _Private = object.__new__(cls)
+        made, set_ = object.__new__(cls), cls._set_of_class()
         made._seed = _sized("the seed", data, SEED)
-        public, private = _library.room(cls._SET.public_key), _library.room(cls._SET.private_key)
-        _done(cls._SET.calls["keygen"](made._seed, public, private))
-        made._fill(cls._SET, private.raw)
+        public, private = _library.room(set_.public_key), _library.room(set_.private_key)
+        _done(set_.calls["keygen"](made._seed, public, private))
+        made._fill(set_, private.raw)
         made._public = public.raw
         return made
 
@@ -491,14 +509,14 @@ class PrivateKey(_Signer, _Unique):
 
         TypeError if they are not bytes-like; ValueError if they have another length, or are not consistent.
         """
-        made: _Private = object.__new__(cls)
+        made, set_ = object.__new__(cls), cls._set_of_class()
         made._seed = None
-        made._fill(cls._SET, _sized("the private key", data, cls._SET.private_key))
+        made._fill(set_, _sized("the private key", data, set_.private_key))
         status = made._asked("is_pair")
         if status in (NO, _library.KEY_RANGE):
             raise ValueError("the private key is not consistent")
         _done(status)
-        made._public = made._made("public_key", cls._SET.public_key)
+        made._public = made._made("public_key", set_.public_key)
         return made
 
     def public_key(self) -> PublicKey:
@@ -526,7 +544,7 @@ class PrivateKey(_Signer, _Unique):
         """
         return self._plain
 
-    def to_der(self, parts: Optional[str] = None) -> bytes:
+    def to_der(self, parts: Optional[Parts] = None) -> bytes:
         """The key as a OneAsymmetricKey in DER (RFC 9881), not encrypted. `parts` is its `seed`, its `expanded` key, or
         `both`; by default the seed, if it has one.
 
@@ -545,7 +563,7 @@ class PrivateKey(_Signer, _Unique):
         _done(self._set.calls[call](self._plain if chosen == "expanded" else self.private_bytes_raw(), der))
         return der.raw
 
-    def to_pem(self, parts: Optional[str] = None) -> bytes:
+    def to_pem(self, parts: Optional[Parts] = None) -> bytes:
         """The same in PEM, as `mlsign` and OpenSSL write it. Errors as with `to_der`.
 
             >>> load_pem_private_key(key.to_pem()).public_key() == public

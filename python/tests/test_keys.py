@@ -14,6 +14,7 @@ import pickle
 import tempfile
 import threading
 import time
+import types
 import unittest
 from unittest import mock
 
@@ -266,6 +267,12 @@ class Keys(unittest.TestCase):
             self.assertIsInstance(key, mldsa.PrivateKey)
             self.assertIs(type(key.public_key()), PUBLIC[number])
 
+    def test_classes_without_a_set(self):
+        for call in (mldsa.PrivateKey.generate, lambda: mldsa.PrivateKey.from_seed_bytes(SEED),
+                     lambda: mldsa.PrivateKey.from_expanded_bytes(KEY.expanded_bytes()),
+                     lambda: mldsa.PublicKey.from_public_bytes(PUB.public_bytes_raw())):
+            self.assertRaisesRegex(TypeError, "may be of any parameter set: take MLDSA65P(rivate|ublic)Key, or", call)
+
 
 class Pieces(unittest.TestCase):
     def test_mu(self):
@@ -301,11 +308,18 @@ class Pieces(unittest.TestCase):
                 self.assertRaises(InvalidSignature, public.verify_file, wanted, path)
                 self.assertRaises(InvalidSignature, public.verify_file, wanted, io.BytesIO(message[1:]), b"c")
             with open(path, "rb") as file:
-                file.seek(9)
-                PUB.verify(KEY.sign_file(file), message[9:])
-            with open(path, encoding="latin-1") as file:
-                self.assertRaisesRegex(TypeError, "^what the file reads has to be bytes-like, and not str$",
-                                       KEY.sign_file, file)
+                signature = KEY.sign_file(file)
+                for call in (lambda: KEY.sign_file(file), lambda: PUB.verify_file(signature, file)):
+                    self.assertRaisesRegex(ValueError, f"^the file stands at byte {len(message)}, and not at", call)
+                file.seek(0)
+                PUB.verify_file(signature, file)
+            for text in (path, os.devnull):
+                with open(text, encoding="latin-1") as file:
+                    self.assertRaisesRegex(TypeError, "^what the file reads has to be bytes-like, and not str$",
+                                           KEY.sign_file, file)
+            reads = types.SimpleNamespace(read=lambda size: 7)
+            self.assertRaisesRegex(TypeError, "^what the file reads has to be bytes-like, and not int$", KEY.sign_file,
+                                   reads)
             for wrong in (b"message", 7, None):
                 self.assertRaisesRegex(TypeError, "^a file is named by str or os.PathLike, or has read", KEY.sign_file,
                                        wrong)
