@@ -150,6 +150,12 @@ macro_rules! tests_of_a_set {
             #[test]
             fn stacks() {
                 fn within(bytes: usize, call: impl FnOnce() + Send) {
+                    // Without optimisation a call has what the documents say of that.
+                    let bytes = if cfg!(debug_assertions) {
+                        768 << 10
+                    } else {
+                        bytes
+                    };
                     let thread = std::thread::Builder::new().stack_size(bytes + (64 << 10));
                     std::thread::scope(|it| thread.spawn_scoped(it, call).unwrap().join().unwrap());
                 }
