@@ -1,5 +1,5 @@
 # `make install` and `make uninstall`: the library that scripts/archive left, what compilers read to find it, and the program
-# mlsign with its page, where it was built. DESTDIR stands before all places, for those who make packages. With an empty PREFIX
+# mlsign with its page, where it was built for the library's processor. DESTDIR stands before all places, for those who make packages. With an empty PREFIX
 # what pkg-config reads names no folder, so that the tree may be moved.
 archive = out/archive/$(LIBRARY)
 version := $(shell sed -n 's/^.define MLDSA_VERSION_TEXT "\(.*\)"/\1/p' c/mldsa.h)
@@ -7,7 +7,10 @@ version := $(shell sed -n 's/^.define MLDSA_VERSION_TEXT "\(.*\)"/\1/p' c/mldsa.
 minor := $(basename $(version))
 soname = libmldsa.so.$(minor)
 shared = $(wildcard $(archive)/$(soname))
-mlsign = $(firstword $(wildcard out/cargo/release/mlsign crates/mlsign/out/mlsign))
+# The libraries for this machine's processor, for which `mlsign` is built.
+own = rust $(if $(filter x86_64,$(shell uname -m)),x86-64 x86-64-v2 x86-64-v3,$(shell uname -m))
+built = $(firstword $(wildcard out/cargo/release/mlsign crates/mlsign/out/mlsign))
+mlsign = $(if $(filter $(own),$(LIBRARY)),$(built))
 page = $(if $(mlsign),$(if $(shell command -v pandoc),out/mlsign.1))
 
 lib = $(DESTDIR)$(LIBDIR)

@@ -69,8 +69,8 @@ def cargo_words(workspace=TOP):
         print("cargo has no registry, and Debian's crates are not all there: apt-get install "
               f"{' '.join(packages(CRATES.values()))}", file=sys.stderr)
         return ()
-    print(f"cargo has no registry: it takes Debian's packages in {REGISTRY}, and Cargo.lock names these; delete that "
-          "file before cargo takes crates from elsewhere", file=sys.stderr)
+    print(f"cargo has no registry: it takes Debian's packages in {REGISTRY}, and {workspace}/Cargo.lock names "
+          "these; delete that file before cargo takes crates from elsewhere", file=sys.stderr)
     return tuple(words)
 
 
