@@ -7,8 +7,8 @@ import hashlib
 import os
 import secrets
 import threading
-from typing import (TYPE_CHECKING, Any, ClassVar, Dict, Iterator, Literal, NoReturn, Optional, Protocol, Tuple, Type,
-                    TypeVar, Union)
+from typing import (TYPE_CHECKING, Any, ClassVar, Dict, Iterator, NoReturn, Optional, Protocol, Tuple, Type, TypeVar,
+                    Union)
 
 from . import _files, _library
 from ._errors import InvalidSignature, KeyFileError, SigningError
@@ -30,7 +30,6 @@ class Readable(Protocol):
 
 
 File = Union[str, "os.PathLike[str]", Readable]
-Parts = Literal["seed", "expanded", "both"]
 _Private = TypeVar("_Private", bound="PrivateKey")
 _Public = TypeVar("_Public", bound="PublicKey")
 _LONGEST_CONTEXT = 255
@@ -544,7 +543,7 @@ class PrivateKey(_Signer, _Unique):
         """
         return self._plain
 
-    def to_der(self, parts: Optional[Parts] = None) -> bytes:
+    def to_der(self, parts: Optional[str] = None) -> bytes:
         """The key as a OneAsymmetricKey in DER (RFC 9881), not encrypted. `parts` is its `seed`, its `expanded` key, or
         `both`; by default the seed, if it has one.
 
@@ -563,7 +562,7 @@ class PrivateKey(_Signer, _Unique):
         _done(self._set.calls[call](self._plain if chosen == "expanded" else self.private_bytes_raw(), der))
         return der.raw
 
-    def to_pem(self, parts: Optional[Parts] = None) -> bytes:
+    def to_pem(self, parts: Optional[str] = None) -> bytes:
         """The same in PEM, as `mlsign` and OpenSSL write it. Errors as with `to_der`.
 
             >>> load_pem_private_key(key.to_pem()).public_key() == public

@@ -313,8 +313,8 @@ class Pieces(unittest.TestCase):
                     self.assertRaisesRegex(ValueError, f"^the file stands at byte {len(message)}, and not at", call)
                 file.seek(0)
                 PUB.verify_file(signature, file)
-            for text in (path, os.devnull):
-                with open(text, encoding="latin-1") as file:
+            for name in (str(path), os.devnull):
+                with open(name, encoding="latin-1") as file:
                     self.assertRaisesRegex(TypeError, "^what the file reads has to be bytes-like, and not str$",
                                            KEY.sign_file, file)
             reads = types.SimpleNamespace(read=lambda size: 7)

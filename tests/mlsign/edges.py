@@ -767,8 +767,8 @@ class Verified(Edges):
             changed = [bytes_ + b"\0", bytes_[:-1], b"", bytes_[:65536] + b"\0"]
             for place in {0, 65535, 65536, len(bytes_) - 1}:
                 changed.append(bytes_[:place] + b"x" + bytes_[place + 1:])
-            for other in changed:
-                self.put(name, other)
+            for content in changed:
+                self.put(name, content)
                 said = f"{escaped}: it is not the file of the list\n"
                 self.ends(call, status=1, wrote=f"{head}{rest}: OK\n", said=said)
                 self.ends(call, "-q", status=1, said=said)
