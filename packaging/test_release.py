@@ -110,6 +110,41 @@ class Refusals(unittest.TestCase):
             calls.unlink(missing_ok=True)
             shutil.rmtree(made)
 
+    def test_folder(self):
+        """A folder is emptied of what a former release left there; where anything else is in it all stays."""
+        page, folder = (TOP / "packaging/PROVENANCE").read_text(encoding="utf-8"), self.tools / "folder"
+        both, signed = {"PROVENANCE": page, "file": "content"}, {"SHA256SUMS.sig": "signature", "release.pub": "key"}
+        listed = both | {"SHA256SUMS": "".join(f"{'0' * 64}  {name}\n" for name in both)}
+        alone = f"{'0' * 64}  file\n"
+        for what, files, is_emptied in (
+                ("nothing", dict[str, str](), True), ("a release", listed, True),
+                ("a signed release", listed | signed, True),
+                ("a release, and a file that its list lacks", listed | {"mine": "mine"}, False),
+                ("a list without PROVENANCE", {"file": "content", "SHA256SUMS": alone}, False),
+                ("a list with another PROVENANCE", listed | {"PROVENANCE": f"Another page\n{page}"}, False),
+                ("PROVENANCE that no list names", both | {"SHA256SUMS": alone}, False),
+                ("PROVENANCE without a list", both, False), ("a key", signed, False)):
+            folder.mkdir()
+            for name, content in files.items():
+                (folder / name).write_text(content, encoding="utf-8")
+            with self.subTest(part=what):
+                if is_emptied:
+                    release.emptied(folder)
+                else:
+                    self.assertRaisesRegex(SystemExit, "has files that no release made: ", release.emptied, folder)
+                found = {it.name: it.read_text(encoding="utf-8") for it in folder.iterdir()}
+                self.assertEqual(found, {} if is_emptied else files)
+            shutil.rmtree(folder)
+        release.emptied(folder)
+        self.assertEqual([*folder.iterdir()], [])
+        # A folder in it stays too, whatever its name; and the command looks before it makes anything.
+        (folder / "file").mkdir()
+        for name in ("PROVENANCE", "SHA256SUMS"):
+            (folder / name).write_text(listed[name], encoding="utf-8")
+        status, said = self.command("scripts/release", "--out", folder)
+        self.assertEqual((status, len([*folder.iterdir()])), (1, 3), said)
+        self.assertEqual(said, f"{folder} has files that no release made: file\n")
+
     def test_of_a_new_clone(self):
         self.fill_in("homepage", "repository", "contact", "flaws", "fingerprint")
         self.planted()

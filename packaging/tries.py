@@ -238,12 +238,14 @@ class Tries(unittest.TestCase):
 
     @wants("cc", "pkg-config")
     def test_readme(self):
-        """the lines of README under 'Packages', whose files are all in the list"""
+        """the lines of README under 'Packages', whose files are all in the list, where each name has the version"""
         page = (TOP / "README.md").read_text(encoding="utf-8")
         shown = [it.replace("FINGERPRINT", self.fingerprint) for it in lines(page, "## Packages\n")]
         listed = set(re.findall(r"^\w{64}  (.+)$", (self.dist / "SHA256SUMS").read_text(encoding="utf-8"), re.M))
         taken = set(re.findall(r"(?<=[\s/])[\w.-]+\.(?:tar\.gz|tgz|crate|whl|deb)", "\n".join(shown)))
         self.assertTrue(taken and taken <= listed, taken - listed)
+        # (PROVENANCE says itself of which version it is)
+        self.assertEqual([it for it in listed if self.version not in it], ["PROVENANCE"])
         skipped = {"sudo", *missing("npm", path=PATH), *missing("cargo"), *(["openssl"] if not openssl() else [])}
         run = [line for line in shown if line.split()[0] not in skipped]
         for line in shown:

@@ -57,6 +57,11 @@ def written(key):
 
 @unittest.skipUnless(hypothesis, "there is no hypothesis (apt-get install python3-hypothesis): what strangers give")
 class Strangers(unittest.TestCase):
+    @classmethod
+    def setUpClass(cls):
+        # (also where a fault ends the interpreter)
+        print(f"{cls.__name__}: FUZZ_SEED={FIRST}", flush=True)
+
     def holds(self, check, *given):
         """Runs a check with one seed after another, until the time is up."""
         end, number = time.monotonic() + SECONDS, FIRST
