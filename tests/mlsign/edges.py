@@ -318,6 +318,11 @@ class Replaced(Edges):
             with tempfile.NamedTemporaryFile("r", encoding="utf-8") as log:
                 self.fails(words, said="other: it is there already, and only --force replaces it", CALLS=log.name)
                 self.assertLess(log.read().splitlines().count("read"), 20)
+        self.path("other").chmod(0o444)
+        with tempfile.NamedTemporaryFile("r", encoding="utf-8") as log:
+            self.fails("sign -f -k private -o other message", said="other: it is read-only, and is not replaced",
+                       CALLS=log.name)
+            self.assertLess(log.read().splitlines().count("read"), 20)
 
     def test_a_public_key_may_be_a_message(self):
         self.done("sign -k private -o signature public")

@@ -504,12 +504,12 @@ impl Target<'_> {
                 "it is there already, and only --force replaces it",
             ));
         }
+        if found.permissions().readonly() {
+            return Err(about(path, "it is read-only, and is not replaced"));
+        }
         // (what is refused is not read to its end)
         if guarded && has_private_label(rt, path).context(path)? {
             return Err(private_stays(path));
-        }
-        if found.permissions().readonly() {
-            return Err(about(path, "it is read-only, and is not replaced"));
         }
         OpenOptions::new().write(true).open(path).context(path)?;
         Ok(())
