@@ -6,6 +6,7 @@ import hashlib
 import os
 import pathlib
 import re
+import shutil
 import subprocess
 import sys
 import tempfile
@@ -23,19 +24,15 @@ LIBRARY = {"include/mldsa.h", "lib/libmldsa.a", "lib/libmldsa.so", SHARED, "lib/
            "lib/cmake/mldsa/mldsa-config.cmake", "lib/cmake/mldsa/mldsa-config-version.cmake",
            "share/doc/mldsa/LICENSE", "share/doc/mldsa/sign_file.c", *EXAMPLES}
 PROGRAM = {"bin/mlsign", "share/bash-completion/completions/mlsign"}
-FOUND = """cmake_minimum_required(VERSION 3.13)
+# What the page of C has for finding what is installed, and for 64-bit ARM.
+_, FINDING, CROSS = testing.blocks("c/README.md", "## Installing it, and finding it")
+PROJECT = """cmake_minimum_required(VERSION 3.13)
 project(answers C)
-find_package(mldsa {version} REQUIRED)
-foreach(kind mldsa shared static)
-  add_executable(${{kind}} {top}/c/tests/answers.c)
-  target_link_libraries(${{kind}} mldsa::${{kind}})
+{line}
+foreach(kind {kinds})
+  add_executable(of_${{kind}} {top}/c/tests/answers.c)
+  target_link_libraries(of_${{kind}} mldsa::${{kind}})
 endforeach()
-"""
-IN_TREE = """cmake_minimum_required(VERSION 3.13)
-project(answers C)
-add_subdirectory({top}/c mldsa)
-add_executable(answers {top}/c/tests/answers.c)
-target_link_libraries(answers mldsa::mldsa)
 """
 MLSIGN = """#!/bin/sh
 [ "$*" = "sign --help" ] && echo "  -k, --private <FILE>  the key" && echo "      --deterministic  without random bytes"
@@ -130,28 +127,39 @@ class Install(unittest.TestCase):
             self.answers(self.compiled("static", "-static", *self.flags(prefix, "--static")))
             self.answers(self.compiled("archive", f"-I{prefix}/include", prefix / "lib/libmldsa.a"))
 
+    def project(self, call, version=" 0.2"):
+        """Writes a project of CMake with the page's line of a call, which may have another version, and gives the names
+        of its programs: one for each target that the page has beside the line."""
+        line, = [it for it in FINDING if it.startswith(f"{call}(")]
+        kinds = re.findall(r"mldsa::(\w+)", line)
+        line = line.replace("CLONE", str(TOP)).replace(" 0.2", version)
+        written = PROJECT.format(line=line, kinds=" ".join(kinds), top=TOP)
+        (self.room / "CMakeLists.txt").write_text(written, encoding="utf-8")
+        return kinds
+
     @wants("cc", "cmake")
     def test_find_package(self):
-        """programs by CMake's find_package, which takes no other minor version"""
+        """programs by CMake's find_package as the page of C has it, which takes no other minor version"""
         self.make("install", f"PREFIX={self.prefix}")
         words = ("cmake", "-S", self.room, f"-DCMAKE_PREFIX_PATH={self.prefix}", "-B")
-        for version in ("", "0.2", "0.2.0"):
-            (self.room / "CMakeLists.txt").write_text(FOUND.format(version=version, top=TOP), encoding="utf-8")
-            self.runs(*words, self.room / f"built{version}")
-        self.runs("cmake", "--build", self.room / "built")
-        for kind in ("mldsa", "shared", "static"):
-            self.answers(self.room / "built" / kind)
-        for version in ("0.1", "0.3", "0.2.9"):
-            (self.room / "CMakeLists.txt").write_text(FOUND.format(version=version, top=TOP), encoding="utf-8")
-            self.assertIn("version", self.runs(*words, self.room / f"other{version}", status=1))
+        for version in ("", " 0.2.0", " 0.2"):
+            kinds = self.project("find_package", version)
+            self.runs(*words, self.room / f"built{version.strip()}")
+        self.assertEqual(kinds, ["mldsa", "shared", "static"])
+        self.runs("cmake", "--build", self.room / "built0.2")
+        for kind in kinds:
+            self.answers(self.room / "built0.2" / f"of_{kind}")
+        for version in (" 0.1", " 0.3", " 0.2.9"):
+            self.project("find_package", version)
+            self.assertIn("version", self.runs(*words, self.room / f"other{version.strip()}", status=1))
 
     @wants("cc", "cmake", "cargo")
     def test_in_tree(self):
-        """a program by CMake that has this repository in its tree"""
-        (self.room / "CMakeLists.txt").write_text(IN_TREE.format(top=TOP), encoding="utf-8")
+        """a program by CMake that has this repository in its tree, as the page of C has it"""
+        kind, = self.project("add_subdirectory")
         self.runs("cmake", "-S", self.room, "-B", self.room / "built")
         self.runs("cmake", "--build", self.room / "built")
-        self.answers(self.room / "built/answers")
+        self.answers(self.room / "built" / f"of_{kind}")
 
     @wants("aarch64-linux-gnu-gcc", "qemu-aarch64", "pkg-config")
     def test_cross(self):
@@ -159,11 +167,17 @@ class Install(unittest.TestCase):
         rust = rust_for_arm()
         if not rust:
             self.skipTest(f"no rustc from 1.88 on has a library for {RUST_ARM}: `rustup target add {RUST_ARM}`")
-        own = {"PATH": f"{rust}:{os.environ['PATH']}",
-               "CARGO_TARGET_AARCH64_UNKNOWN_LINUX_GNU_LINKER": "aarch64-linux-gnu-gcc"}
-        self.make(f"LIBRARY={RUST_ARM}", environment=own)
-        self.make("install", f"LIBRARY={RUST_ARM}", f"PREFIX={self.prefix}", program="/bin/true")
+        for name in ("tests/answers.c", "tests/sets.h"):
+            shutil.copy(TOP / "c" / name, self.room)
+        (self.room / "answers.c").rename(self.room / "program.c")
+        # As the page has it, but for what Debian installs; an mlsign of this machine is there.
+        *debian, linker, built, compiled = [it.replace("/DIR", str(self.prefix)) for it in CROSS]
+        self.assertEqual([it.split()[0] for it in debian], ["dpkg", "apt-get"])
+        script = f'set -e; make() {{ command make -C {TOP} "$@" built=/bin/true; }}'
+        own = {"PATH": f"{rust}:{os.environ['PATH']}"}
+        self.runs("bash", "-c", "\n".join([script, linker, built, compiled]), cwd=self.room, environment=own)
         self.assertEqual(self.files(self.prefix), LIBRARY)
+        self.answers(*emulator("aarch64"), self.room / "a.out")
         flags = self.flags(self.prefix)
         for name, more in (("static", ["-static"]), ("shared", [f"-Wl,-rpath,{self.prefix}/lib"])):
             program = self.compiled(name, *flags, *more, cc="aarch64-linux-gnu-gcc")

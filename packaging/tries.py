@@ -51,11 +51,6 @@ def openssl():
     return f'openssl() {{ {said} "$@"; }}' if found and (int(found[1]), int(found[2])) >= (3, 5) else None
 
 
-def lines(page, heading):
-    """The lines that a page shows to be typed under a heading."""
-    return re.findall(r"^    (.*)", page.partition(heading)[2].partition("\n## ")[0], re.M)
-
-
 def wants(*tools):
     """A test that is not run where the system has not these tools."""
     lacking = missing(*tools, path=PATH)
@@ -236,11 +231,24 @@ class Tries(unittest.TestCase):
         self.runs("sh", "-c", again, cwd=self.files)
         self.runs("sh", "-c", again, cwd=self.dist, status=1)
 
+    @wants("cc")
+    def test_page_of_c(self):
+        """the lines of the page of C for the archive"""
+        _, of_package = testing.blocks("c/README.md", "## A first signature")
+        said = self.runs("bash", "-e", "-c", "\n".join(of_package), cwd=self.dist)
+        self.assertIn("verified: yes\n", said)
+
     @wants("cc", "pkg-config")
     def test_readme(self):
+<<<<<<< HEAD
         """the lines of README under 'Packages', whose files are all in the list, where each name has the version"""
         page = (TOP / "README.md").read_text(encoding="utf-8")
         shown = [it.replace("FINGERPRINT", self.fingerprint) for it in lines(page, "## Packages\n")]
+=======
+        """the lines of README under 'Packages', whose files are all in the list"""
+        block, = testing.blocks("README.md", "## Packages")
+        shown = [it.replace("FINGERPRINT", self.fingerprint) for it in block]
+>>>>>>> h-p
         listed = set(re.findall(r"^\w{64}  (.+)$", (self.dist / "SHA256SUMS").read_text(encoding="utf-8"), re.M))
         taken = set(re.findall(r"(?<=[\s/])[\w.-]+\.(?:tar\.gz|tgz|crate|whl|deb)", "\n".join(shown)))
         self.assertTrue(taken and taken <= listed, taken - listed)

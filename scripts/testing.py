@@ -1,12 +1,13 @@
-"""Tests by `unittest`, of which each prints a line as it ends, and so does each part of one (`subTest`); and those that
-the library in C has in each of its forms."""
+"""Tests by `unittest`, of which each prints a line as it ends, and so does each part of one (`subTest`); those that the
+library in C has in each of its forms; and what pages show to be typed."""
 import hashlib
 import os
+import re
 import subprocess
 import traceback
 import unittest
 
-from common import ACCUMULATED, recorded_rows
+from common import ACCUMULATED, recorded_rows, text
 
 
 class Result(unittest.TestResult):
@@ -65,6 +66,12 @@ def run(*cases, failfast=False):
         names = [name for kind in reversed(case.__mro__) for name in vars(kind) if name.startswith("test_")]
         unittest.TestSuite(map(case, names)).run(result)
     return len(result.failures) + len(result.errors) if result.testsRun else 1
+
+
+def blocks(page, heading):
+    """The blocks of indented lines under a heading of a page, each as its lines."""
+    said = f"\n{text(page)}".partition(f"\n{heading}\n")[2].partition("\n## ")[0]
+    return [re.findall(r"^ {4}(.*)$", block, re.M) for block in re.findall(r"(?:^ {4}.*\n)+", said, re.M)]
 
 
 def ran(words, stderr=subprocess.PIPE, **more):

@@ -2,16 +2,17 @@
 // js/out/pictures.
 //
 // The browser is driven through its DevTools protocol, over a pipe: messages of JSON, each ended by a zero byte.
-import { spawn } from "node:child_process";
+import { execFileSync, spawn } from "node:child_process";
 import { createHash } from "node:crypto";
 import { copyFileSync, mkdirSync, mkdtempSync, readFileSync, rmSync, writeFileSync } from "node:fs";
 import { createServer } from "node:http";
 import { tmpdir } from "node:os";
 import { join } from "node:path";
 import { fileURLToPath, pathToFileURL } from "node:url";
+import { gzipSync } from "node:zlib";
 import { load } from "../mldsa.js";
 import { bundle, installed } from "./bundles.js";
-import { SEED, ofOpenssl } from "./shared.js";
+import { SEED, ofOpenssl, text } from "./shared.js";
 
 const here = fileURLToPath(new URL("../", import.meta.url));
 const out = join(here, "out");
@@ -294,10 +295,45 @@ async function inPages() {
     server.close();
 }
 
+/** The first program of the README, by the lines that it has for a page: bundled, from a server, and in one file. */
+async function asTheReadmeSays() {
+    if (installed(room) === null) {
+        console.log("page, NOT RUN, since there is no npm: the README's lines for a page");
+        return;
+    }
+    const readme = text("js/README.md");
+    const [bundling, script, serving] = ["esbuild ", "<script ", "python3 "].map((front) => readme.match(`\n- .*?\`(${front}.*?)\``)[1]);
+    writeFileSync(join(room, "first.mjs"), readme.match(/^```js\n(.*?)^```$/ms)[1]);
+    execFileSync("sh", ["-c", bundling], { cwd: room, stdio: "inherit" });
+    const made = readFileSync(join(room, "page.js"));
+    const sizes = [made, gzipSync(made)].map((bytes) => Math.round(bytes.length / 10000) * 10);
+    note("the size of the README's bundle", readme.includes(`makes about ${sizes[0]} KB, gzipped ${sizes[1]} KB`), sizes.join(" and "));
+    writeFileSync(join(room, "page.html"), `<!doctype html>${script}`);
+    const one = write("one.html", `<!doctype html>${script.replace(/ src=".*?"/, "").replace("><", () => `>${made}<`)}`);
+    // (at any port, of this machine alone)
+    const server = spawn("sh", ["-c", `exec ${serving} 0 --bind 127.0.0.1`], { cwd: room, env: { ...process.env, PYTHONUNBUFFERED: "1" } });
+    const port = await new Promise((resolve, reject) => {
+        server.stdout.on("data", (said) => resolve(String(said).match(/ port (\d+)/)[1]));
+        server.on("exit", (status) => reject(new Error(`${serving}: status ${status}`)));
+    });
+    const browser = new Browser(name);
+    await browser.open("/dev/null");
+    await browser.send("Page.addScriptToEvaluateOnNewDocument", { source: "console.log = (said) => { document.title = said; };" });
+    for (const [what, place] of [["from a server", `http://127.0.0.1:${port}/page.html`], ["in one file", one]]) {
+        await browser.reload(place);
+        await browser.until(() => browser.value("document.title !== ''")).catch(() => {});
+        const said = await browser.value("document.title");
+        note(`the README's program ${what}`, said === "true", said);
+    }
+    await browser.close();
+    server.removeAllListeners("exit").kill();
+}
+
 try {
     await thePage();
     await thePageWithout();
     await inPages();
+    await asTheReadmeSays();
 } finally {
     rmSync(room, { recursive: true, force: true });
 }
