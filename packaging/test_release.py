@@ -15,12 +15,13 @@ import subprocess
 import sys
 import tempfile
 import unittest
+import zipfile
 
 TOP = pathlib.Path(__file__).resolve().parent.parent
 sys.dont_write_bytecode = True
 sys.path.insert(0, str(TOP / "scripts"))
 
-from common import missing
+from common import missing, packer
 
 loader = importlib.machinery.SourceFileLoader("release", str(TOP / "scripts/release"))
 release = importlib.util.module_from_spec(importlib.util.spec_from_loader("release", loader))
@@ -42,7 +43,7 @@ class Refusals(unittest.TestCase):
         self.command("git", "clone", "-q", TOP, self.clone, cwd=TOP)
         # What is not committed yet is tested too.
         for name in ("scripts/release", "scripts/archive", "scripts/common.py", "packaging/PUBLISHER",
-                     "packaging/tries.py", "packaging/PROVENANCE"):
+                     "packaging/tries.py", "packaging/PROVENANCE", "python/setup.py"):
             (self.clone / name).write_bytes((TOP / name).read_bytes())
         self.tools.mkdir()
         # (what a release wants beside the kit, and is not here, is never run)
@@ -144,6 +145,20 @@ class Refusals(unittest.TestCase):
         status, said = self.command("scripts/release", "--out", folder)
         self.assertEqual((status, len([*folder.iterdir()])), (1, 3), said)
         self.assertEqual(said, f"{folder} has files that no release made: file\n")
+
+    @unittest.skipUnless(packer(), "there is no setuptools-rust: what a wheel says of its publisher")
+    def test_wheel(self):
+        """A wheel names the project's page and the repository that were filled in."""
+        self.fill_in("homepage", "repository", "contact")
+        words = ["--no-deps", "--no-index", "--no-build-isolation", "--wheel-dir", self.tools, self.clone / "python"]
+        library = f"MLDSA_LIBRARY={self.tools / 'rt'}"
+        status, said = self.command("env", library, packer(), "-m", "pip", "wheel", *words)
+        self.assertEqual(status, 0, said)
+        wheel, = self.tools.glob("*.whl")
+        with zipfile.ZipFile(wheel) as packed:
+            name, = (it for it in packed.namelist() if it.endswith("/METADATA"))
+            found = re.findall("^Project-URL: (\\w+), a@a.example$", packed.read(name).decode(), re.M)
+        self.assertEqual(sorted(found), ["homepage", "repository"])
 
     def test_of_a_new_clone(self):
         self.fill_in("homepage", "repository", "contact", "flaws", "fingerprint")

@@ -1,6 +1,7 @@
 """Tries the files of a release as someone would who has neither the kit nor the repository: in a fresh folder with a
 fresh HOME and a PATH of the system's tools, and, where this may be done, with the folders of the repository and of the
 kit hidden."""
+import collections
 import functools
 import hashlib
 import os
@@ -8,9 +9,13 @@ import pathlib
 import re
 import shutil
 import subprocess
+import sys
 import tempfile
 import unittest
 
+sys.path.append(str(pathlib.Path(__file__).resolve().parent.parent / "c"))
+
+import exports
 import registry
 import testing
 from common import TOP, emulator, missing, printed, recorded_rows
@@ -33,6 +38,14 @@ const signature = mlDsa65.sign(privateKey, message, { context, random });
 if (!mlDsa65.verify(publicKey, message, signature, { context })) process.exit(6);
 console.log(...[publicKey, privateKey, signature].map((bytes) => Buffer.from(bytes).toString("hex")));
 """
+CMAKE = """cmake_minimum_required(VERSION 3.13)
+project(answers C)
+find_package(mldsa REQUIRED)
+add_executable(answers answers.c)
+target_link_libraries(answers mldsa::mldsa)
+"""
+# How each kind of file is unpacked into a folder.
+UNPACK = {".gz": "tar -xzf {} -C {}", ".whl": "python3 -m zipfile -e {} {}", ".deb": "dpkg-deb -x {} {}"}
 # Recorded values of ML-DSA-65, with a context and a message.
 ROW = next(row for row in recorded_rows() if row[0] == "65" and row[3] and row[4] and len(row) == 8)
 
@@ -101,11 +114,15 @@ class Tries(unittest.TestCase):
         found = self.runs(*words, **more).split()[:3]
         self.assertEqual([hashlib.sha256(bytes.fromhex(it)).hexdigest() for it in found], ROW[5:8], words)
 
-    def compiled(self, cc, *flags):
-        """The words that run a program in C which prints recorded values, over what these flags give."""
+    def sources(self):
+        """Puts a program in C that prints recorded values, and what it reads, into the room."""
         shutil.copy(TOP / "c/tests/answers.c", self.room)
         shutil.copy(TOP / "c/tests/sets.h", self.room)
         (self.room / "line").write_text("\t".join(ROW[:5]) + "\n", encoding="utf-8")
+
+    def compiled(self, cc, *flags):
+        """The words that run this program over what these flags give."""
+        self.sources()
         self.runs(cc, "-std=c11", "-Wall", "-Werror", "answers.c", *flags, "-o", "answers")
         return ["sh", "-c", f"{' '.join(emulator('aarch64' if 'aarch64' in cc else 'x86-64'))} ./answers < line"]
 
@@ -120,9 +137,9 @@ class Tries(unittest.TestCase):
         given = {"PKG_CONFIG_PATH": f"{top}/lib/pkgconfig"}
         return self.runs("pkg-config", "--cflags", "--libs", *words, "mldsa", **given).split()
 
-    @wants("cc", "pkg-config", "readelf")
+    @wants("cc", "pkg-config")
     def test_x86(self):
-        """the archive for x86-64: a program in C, shared and static; mlsign, its page, and how both are linked"""
+        """the archive for x86-64: a program in C, shared and static; mlsign and its page"""
         top = self.unpacked("*-x86_64-linux.tar.gz")
         self.answers(*self.compiled("cc", *self.flags(top)), LD_LIBRARY_PATH=f"{top}/lib")
         self.answers(*self.compiled("cc", "-static", *self.flags(top, "--static")))
@@ -133,14 +150,39 @@ class Tries(unittest.TestCase):
         self.runs(top / "bin/mlsign", "verify", "-p", "key.pub", "line", status=1)
         if not missing("man"):
             self.assertIn("sign and verify files", self.runs("man", "-M", top / "share/man", "1", "mlsign"))
-        for file in (top / "bin/mlsign", top / "lib/libmldsa.so"):
-            said = self.runs("readelf", "-hldSW", file)
-            for wanted in (r"Type: +DYN", "GNU_RELRO", r"BIND_NOW|Flags:.*\bNOW\b", r"GNU_STACK .* RW +0"):
-                self.assertRegex(said, wanted, file)
-            self.assertNotRegex(said, r"\((RPATH|RUNPATH|TEXTREL)\)|LOAD.* RWE |\] \.(symtab|debug)", file)
         page = (top / "share/doc/mldsa/PROVENANCE").read_text(encoding="utf-8")
         summed = hashlib.sha256((top / "bin/mlsign").read_bytes()).hexdigest()
         self.assertIn(f"{summed}  mlsign", page.splitlines())
+
+    @wants("cc", "cmake")
+    def test_cmake(self):
+        """the archive for x86-64: a program by CMake's find_package"""
+        self.sources()
+        (self.room / "CMakeLists.txt").write_text(CMAKE, encoding="utf-8")
+        self.runs("cmake", "-B", "built", f"-DCMAKE_PREFIX_PATH={self.unpacked('*-x86_64-linux.tar.gz')}")
+        self.runs("cmake", "--build", "built")
+        self.answers("sh", "-c", "built/answers < line")
+
+    @wants("readelf", "dpkg-deb", "python3")
+    def test_linked(self):
+        """how mlsign and each shared library are linked: they need libc alone, and show the calls of mldsa.h alone"""
+        for file in (it for end in ("-linux.tar.gz", ".whl", ".deb") for it in self.dist.glob(f"*{end}")):
+            (self.room / f"of-{file.name}").mkdir()
+            self.runs(*UNPACK[file.suffix].format(file, self.room / f"of-{file.name}").split())
+        calls, of = {it.name for it in exports.exports()}, collections.Counter()
+        for file in (it for it in self.room.glob("of-*/**/*") if it.is_file() and not it.is_symlink()):
+            if not re.match(r"mlsign$|libmldsa\..*so", file.name):
+                continue
+            said = self.runs("readelf", "-hldSW", "--dyn-syms", file)
+            for wanted in (r"Type: +DYN", "GNU_RELRO", r"BIND_NOW|Flags:.*\bNOW\b", r"GNU_STACK .* RW +0"):
+                self.assertRegex(said, wanted, file)
+            self.assertNotRegex(said, r"\((RPATH|RUNPATH|TEXTREL)\)|LOAD.* RWE |\] \.(symtab|debug)", file)
+            self.assertLessEqual({*re.findall(r"\(NEEDED\).*\[(.*)\]", said)}, {"libc.so.6"}, file)
+            shown = re.findall(r"(?:GLOBAL|WEAK) +DEFAULT +\d+ (\w+)", said)
+            # (what chooses the level in the kit's library for x86-64)
+            self.assertEqual({*shown} - {"mldsa_x86_64_level"}, calls if "so" in file.name else set(), file)
+            of[file.relative_to(self.room).parts[0].rpartition(".")[2]] += 1
+        self.assertEqual(of, {"gz": 3, "whl": 2, "deb": 1})
 
     @wants("aarch64-linux-gnu-gcc", "qemu-aarch64", "pkg-config")
     def test_arm(self):
@@ -240,15 +282,9 @@ class Tries(unittest.TestCase):
 
     @wants("cc", "pkg-config")
     def test_readme(self):
-<<<<<<< HEAD
         """the lines of README under 'Packages', whose files are all in the list, where each name has the version"""
-        page = (TOP / "README.md").read_text(encoding="utf-8")
-        shown = [it.replace("FINGERPRINT", self.fingerprint) for it in lines(page, "## Packages\n")]
-=======
-        """the lines of README under 'Packages', whose files are all in the list"""
         block, = testing.blocks("README.md", "## Packages")
         shown = [it.replace("FINGERPRINT", self.fingerprint) for it in block]
->>>>>>> h-p
         listed = set(re.findall(r"^\w{64}  (.+)$", (self.dist / "SHA256SUMS").read_text(encoding="utf-8"), re.M))
         taken = set(re.findall(r"(?<=[\s/])[\w.-]+\.(?:tar\.gz|tgz|crate|whl|deb)", "\n".join(shown)))
         self.assertTrue(taken and taken <= listed, taken - listed)

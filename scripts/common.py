@@ -91,13 +91,19 @@ def archives(*processors):
     return [pathlib.Path(line) for line in command(TOP / "scripts/archive", *processors, stderr=None).splitlines()]
 
 
+def packer():
+    """A Python with all that packs a wheel, or none."""
+    asked = ["-c", "import setuptools, setuptools_rust, wheel, pip"]
+    pythons = (it for it in (sys.executable, "/usr/bin/python3")
+               if subprocess.call([it, *asked], stderr=subprocess.DEVNULL) == 0)
+    return next(pythons, None)
+
+
 def wheel(processor):
     """The wheel of the package for Python, which pip builds over the library for a processor: by the word rust over the
     one that cargo builds with it, and else over the one that scripts/archive left."""
-    asked = ["-c", "import setuptools, setuptools_rust, wheel, pip"]
-    pythons = [it for it in (sys.executable, "/usr/bin/python3")
-               if subprocess.call([it, *asked], stderr=subprocess.DEVNULL) == 0]
-    need([] if pythons else ["setuptools-rust (apt-get install python3-pip python3-setuptools-rust python3-wheel)"])
+    python = packer()
+    need([] if python else ["setuptools-rust (apt-get install python3-pip python3-setuptools-rust python3-wheel)"])
     made, given = TOP / "out/wheels" / processor, {"SOURCE_DATE_EPOCH": "315532800", **os.environ}
     words = ["--no-deps", "--no-index", "--no-build-isolation", "--quiet", "--wheel-dir", made]
     if processor != "rust":
@@ -106,7 +112,7 @@ def wheel(processor):
         machine = "aarch64" if processor == "aarch64" else "x86_64"
         words.append(f"--config-settings=--build-option=--plat-name=linux_{machine}")
     shutil.rmtree(made, ignore_errors=True)
-    command(pythons[0], "-m", "pip", "wheel", *words, TOP / "python", env=given)
+    command(python, "-m", "pip", "wheel", *words, TOP / "python", env=given)
     found, = made.glob("*.whl")
     return found
 

@@ -174,6 +174,11 @@ class Commands(Program):
                     self.writes(*call, changed={"new": (wanted, mode)})
                     self.fails(*call, said="new: it is there already")
                     os.remove(self.path("new"))
+            raw = written["raw"] or b""
+            for wrong in (raw[:-1], raw + b"\0") if raw else ():
+                self.put("wrong", wrong, 0o600)
+                self.fails("convert --from raw -o none wrong", said="wrong: no key has so many bytes")
+                self.fails(f"convert --from raw --set {number} -o none wrong", said="wrong: its key has a wrong length")
         parts = {"private-seed": "seed", "private-expanded": "expanded"}
         for name in ("private-seed", "private-expanded", "private-both"):
             self.fill({name: keys[name][0]["der"]})

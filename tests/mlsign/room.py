@@ -34,12 +34,15 @@ def house(number):
     is no such key."""
     private, public = recorded(f"private-{number}.pem"), recorded(f"public-{number}.pem")
     other, ed25519 = recorded(f"signature-{SETS[SETS.index(number) - 1]}"), bytes.fromhex("302a300506032b6570032100")
-    rsa = pem("RSA PRIVATE KEY", b"key")
+    rsa, key = pem("RSA PRIVATE KEY", b"key"), expanded_key(number)
+    # (the hash of the public key in it is wrong, and nothing else)
+    wrong = key[:64] + bytes(64) + key[128:]
     files = {
         "private": private, "private-expanded": recorded(f"expanded-{number}.pem"), "private-both": both(number),
-        "private-other": both(number, bytes(range(1, 33))), "public": public, "message": b"message", "other": b"other",
+        "private-other": both(number, bytes(range(1, 33))), "private-wrong": private_text(number, wrong),
+        "private-wrong.raw": wrong, "public": public, "message": b"message", "other": b"other",
         "signature": recorded(f"signature-{number}"), "signature.other": other, "empty": b"", "text": b"text\n",
-        "private.raw": expanded_key(number), "public.raw": der_of(public)[22:], "seed": bytes(32), "long": bytes(2420),
+        "private.raw": key, "public.raw": der_of(public)[22:], "seed": bytes(32), "long": bytes(2420),
         "kept": b"kept", "kept.sig": b"no signature", "fixed": recorded(f"signature-{number}"), "public.fixed": public,
         "private-fixed": private, "encrypted": rsa.replace(b"RSA", b"ENCRYPTED"), "rsa": rsa,
         "ssh": rsa.replace(b"RSA", b"OPENSSH"), "certificate": pem("CERTIFICATE", b"key") + private,
