@@ -36,7 +36,7 @@ c-clang: library ; $(step) clang clang++ nm -- env CC=clang CXX=clang++ c/test -
 c-sanitized: library ; $(step) gcc -- c/test --processor rust --sanitize
 fuzzers: tools ; $(step) cargo clang -- c/fuzz/run
 c-valgrind: library ; $(step) gcc valgrind -- c/test --processor rust --valgrind
-vectors-c: library ; $(step) gcc -- vectors/run c rust
+vectors-c: library ; $(step) gcc -- vectors/run c rust --changes
 mlsign-rust: tools ; $(step) cargo cc -- tests/mlsign/run --rust
 vectors-mlsign: mlsign-rust ; $(step) -- vectors/run mlsign out/cargo/release/mlsign
 vectors-rust: tools ; $(step) cargo -- vectors/run rust
