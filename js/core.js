@@ -539,7 +539,8 @@ async function besideOf(script) {
     try {
         return await bytesAt(new URL("./mldsa.wasm", script));
     } catch (error) {
-        throw new Error(`there is no mldsa.wasm beside this script: ${how} (${error.message})`);
+        const why = "there is no mldsa.wasm beside this script, or the page's Content-Security-Policy forbids it";
+        throw new Error(`${why}: ${how} (${error.message})`);
     }
 }
 

@@ -83,7 +83,12 @@ function symbolsOf(text, label) {
     const last = rest.slice(dash);
     if (last !== end + ending) {
         const isCut = (end + ending).startsWith(last);
-        refuse(isCut ? CUT : last.startsWith(end + ending) ? "more follows behind its end" : DAMAGED);
+        refuse(
+            last === end ? "its last line does not end with a line feed"
+            : isCut ? CUT
+            : last.startsWith(end + ending) ? "more follows behind its end"
+            : DAMAGED,
+        );
     }
     const lines = rest.slice(0, dash);
     const symbols = lines.replace(/[\r\n]/g, "");

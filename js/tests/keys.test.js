@@ -37,8 +37,9 @@ test("keys that OpenSSL wrote", () => {
 test("each cut and each changed byte of a file is refused, or is another key", () => {
     const { pem: text } = ofOpenssl(44);
     const { publicKey } = readPublicKey(sets, text);
+    const reasons = new Map([[0, "it is empty"], [text.length - 1, "its last line does not end with a line feed"]]);
     for (let end = 0; end < text.length; end++) {
-        assert.throws(() => readPublicKey(sets, text.slice(0, end)), says(end === 0 ? "it is empty" : "it is cut short"));
+        assert.throws(() => readPublicKey(sets, text.slice(0, end)), says(reasons.get(end) ?? "it is cut short"));
     }
     const bytes = utf8(text);
     for (let at = 0; at < bytes.length; at++) {
