@@ -29,9 +29,11 @@ test:
 check:
 	@scripts/gate check
 
+# (the first one writes the corpus)
 fuzz:
 	c/fuzz/run --seconds $(SECONDS)
-	FUZZ_SECONDS=$(SECONDS) cargo test --release --package corkaife-fips204 $$(scripts/registry.py) --test strangers
+	FUZZ_SECONDS=$(SECONDS) FUZZ_CORPUS=$(CURDIR)/out/fuzz/corpus cargo test --release --package corkaife-fips204 \
+		$$(scripts/registry.py) --test strangers -- --nocapture
 	FUZZ_SECONDS=$(SECONDS) python/test --processor rust
 
 release:
