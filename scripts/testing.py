@@ -69,8 +69,9 @@ def run(*cases, failfast=False):
 
 
 def blocks(page, heading):
-    """The blocks of indented lines under a heading of a page, each as its lines."""
+    """The blocks of indented lines under a heading of a page, each as its lines; none between fences."""
     said = f"\n{text(page)}".partition(f"\n{heading}\n")[2].partition("\n## ")[0]
+    said = re.sub(r"^(```|~~~).*?^\1$", "", said, flags=re.M | re.S)
     return [re.findall(r"^ {4}(.*)$", block, re.M) for block in re.findall(r"(?:^ {4}.*\n)+", said, re.M)]
 
 

@@ -7,9 +7,10 @@ This Python is only tested, and so is what pip builds from a clone: plain Rust t
     >>> signature = key.sign(b"a message", b"a context")
     >>> public.verify(signature, b"a message", b"a context")    # or raises InvalidSignature
 
-The examples of each call have this key, public key and signature. Arguments are any bytes-like objects. Another type is
-a TypeError; a wrong length a ValueError that names the argument and both lengths, but of a signature InvalidSignature.
-Each call may raise OSError where the thread has too little stack, and no other can be started.
+The examples of each call have this key, public key and signature. A Buffer is any bytes-like object, as bytes,
+bytearray or memoryview; a File is a name (str or os.PathLike), or has read(), as a file that is open for reading bytes.
+Another type is a TypeError; a wrong length a ValueError that names the argument and both lengths, but of a signature
+InvalidSignature. Each call may raise OSError where the thread has too little stack, and no other can be started.
 """
 from ._errors import InvalidSignature, KeyFileError, SigningError
 from ._interface import VERSION_TEXT as __version__
@@ -21,3 +22,7 @@ __all__ = ["InvalidSignature", "KeyFileError", "MLDSA44PrivateKey", "MLDSA44Publ
            "MLDSA65PublicKey", "MLDSA87PrivateKey", "MLDSA87PublicKey", "MessageHasher", "PreparedPrivateKey",
            "PreparedPublicKey", "PrivateKey", "PublicKey", "SigningError", "__version__", "load_der_private_key",
            "load_der_public_key", "load_pem_private_key", "load_pem_public_key"]
+
+# What is public is shown, and pickled, by the name that others import it by.
+for _each in [it for it in map(globals().get, __all__) if callable(it)]:
+    _each.__module__ = __name__

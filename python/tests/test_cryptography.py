@@ -66,9 +66,11 @@ class BesideOpenssl(unittest.TestCase):
     def test_encrypted_files_are_refused(self):
         _, other = self.both(44)
         secret = serialization.BestAvailableEncryption(b"word")
-        text = other.private_bytes(serialization.Encoding.PEM, serialization.PrivateFormat.PKCS8, secret)
-        with self.assertRaisesRegex(mldsa.KeyFileError, "another kind"):
-            mldsa.load_pem_private_key(text)
+        for form in ("pem", "der"):
+            encoding = getattr(serialization.Encoding, form.upper())
+            file = other.private_bytes(encoding, serialization.PrivateFormat.PKCS8, secret)
+            with self.assertRaisesRegex(mldsa.KeyFileError, "^it is encrypted, "):
+                getattr(mldsa, f"load_{form}_private_key")(file)
 
     def test_the_same_names(self):
         """What the classes there offer is here by the same name, but files, which have calls of their own."""

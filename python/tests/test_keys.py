@@ -183,7 +183,8 @@ class Arguments(unittest.TestCase):
         for what, those in calls.items():
             for call in those:
                 for given in ("text", 7, None, [1], object()):
-                    sentence = f"^{what} has to be bytes-like, and not {type(given).__name__}$"
+                    more = ": give the file's contents as .*" if (what, given) == ("the file", "text") else ""
+                    sentence = f"^{what} has to be bytes-like, and not {type(given).__name__}{more}$"
                     self.assertRaisesRegex(TypeError, sentence, call, given)
 
     def test_lengths(self):
@@ -256,13 +257,17 @@ class Keys(unittest.TestCase):
             for protocol in range(pickle.HIGHEST_PROTOCOL + 1):
                 self.assertRaisesRegex(TypeError, "is not copied or pickled", pickle.dumps, key, protocol)
         for protocol in range(pickle.HIGHEST_PROTOCOL + 1):
-            self.assertEqual(pickle.loads(pickle.dumps(PUB, protocol)), PUB)
+            pickled = pickle.dumps(PUB, protocol)
+            self.assertEqual(pickle.loads(pickled), PUB)
+            self.assertNotIn(b"_keys", pickled)
         self.assertTrue(copy.copy(PUB) == copy.deepcopy(PUB) == PUB)
 
     def test_constructors(self):
         for kind in (*PRIVATE.values(), *PUBLIC.values(), mldsa.PreparedPrivateKey, mldsa.PreparedPublicKey,
                      mldsa.MessageHasher):
-            self.assertRaisesRegex(TypeError, "is made by", kind)
+            for given in ((), (SEED,), (SEED, SEED)):
+                self.assertRaisesRegex(TypeError, "is made by", kind, *given)
+            self.assertRaisesRegex(TypeError, "is made by", kind, data=SEED)
         for number, key in KEYS.items():
             self.assertIsInstance(key, mldsa.PrivateKey)
             self.assertIs(type(key.public_key()), PUBLIC[number])

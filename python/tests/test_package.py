@@ -57,6 +57,8 @@ class Package(unittest.TestCase):
         self.assertEqual(sorted(mldsa.__all__), mldsa.__all__)
         for name in mldsa.__all__:
             self.assertTrue(getattr(mldsa, name).__doc__, name)
+            if name != "__version__":
+                self.assertEqual(getattr(mldsa, name).__module__, "mldsa", name)
         for kind in (*shared.PRIVATE.values(), *shared.PUBLIC.values(), mldsa.PreparedPrivateKey,
                      mldsa.PreparedPublicKey, mldsa.MessageHasher):
             for name in dir(kind):

@@ -2,6 +2,7 @@
 and the page has the stack that calls need."""
 import doctest
 import hashlib
+import inspect
 import os
 import pathlib
 import re
@@ -36,30 +37,41 @@ narrow.verify(bytearray(), memoryview(b""))
 """
 
 
+# The classes and functions of the module of keys, by whichever name they are shown.
+OWN = [it for it in vars(_keys).values() if getattr(it, "__module__", "") in ("mldsa", _keys.__name__) and callable(it)]
+
+
 class Page(unittest.TestCase):
     def test_blocks(self):
         self.assertGreaterEqual(len(BLOCKS), 3)
         for number, block in enumerate(BLOCKS):
             with self.subTest(number=number), tempfile.TemporaryDirectory() as room:
-                done = subprocess.run([*PYTHON, "-c", block], cwd=room, capture_output=True, text=True, check=False)
+                def run(block=block, room=room):
+                    return subprocess.run([*PYTHON, "-c", block], cwd=room, capture_output=True, text=True, check=False)
+
+                done = run()
                 self.assertEqual((done.returncode, done.stderr), (0, ""))
                 if number == 0:
                     self.assertEqual(done.stdout, "the signature is invalid\n")
+                if "O_EXCL" in block:
+                    self.assertIn("FileExistsError", run().stderr)
+                    self.assertIn("`FileExistsError`", PAGE)
 
     def test_types(self):
         mypy = os.environ.get("MLDSA_MYPY") or shutil.which("mypy")
         if not mypy:
             self.skipTest("there is no mypy")
         with tempfile.TemporaryDirectory() as room:
-            wrong = "from mldsa import MLDSA65PrivateKey\nMLDSA65PrivateKey.generate().sign('text')\n"
-            for number, block in enumerate([*BLOCKS, TYPES, wrong]):
+            wrong = [f"from mldsa import MLDSA65PrivateKey\nMLDSA65PrivateKey{it}\n"
+                     for it in (".generate().sign('text')", ".generate().to_pem('sed')", "(bytes(32))")]
+            for number, block in enumerate([*BLOCKS, TYPES, *wrong]):
                 file = pathlib.Path(room) / f"block{number}.py"
                 file.write_text(block, encoding="utf-8")
                 environment = {"PATH": "/usr/bin:/bin", "MYPYPATH": str(pathlib.Path(mldsa.__file__).parent.parent),
                                "HOME": room}
                 done = subprocess.run([mypy, "--strict", file.name], cwd=room, env=environment, capture_output=True,
                                       text=True, check=False)
-                self.assertEqual(done.returncode, int(block is wrong), done.stdout)
+                self.assertEqual(done.returncode, int(block in wrong), done.stdout)
 
     def test_stack(self):
         most = max(value for name, value in _interface.NUMBERS.items() if "_STACK_" in name)
@@ -76,10 +88,13 @@ class Docstrings(unittest.TestCase):
             self.addCleanup(os.chdir, os.getcwd())
             os.chdir(room)
             pathlib.Path("notes").write_bytes(b"a message")
-            for module in (mldsa, _keys):
-                for test in doctest.DocTestFinder(recurse=module is _keys).find(module, extraglobs=names):
+            for test in doctest.DocTestFinder(recurse=False).find(mldsa, extraglobs=names):
+                runner.run(test, out=said.append)
+            for own in OWN:
+                for test in doctest.DocTestFinder().find(own, module=False, globs={**vars(_keys), **names}):
                     runner.run(test, out=said.append)
         self.assertEqual(runner.failures, 0, "".join(said))
+        self.assertEqual(runner.tries, sum(inspect.getsource(it).count(">>> ") for it in (mldsa, _keys)))
 
     def test_each(self):
         kinds = (_keys.MessageHasher, _keys._Key, _keys._Signer, _keys._Verifier, _keys.PublicKey, _keys.PrivateKey)
