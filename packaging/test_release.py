@@ -172,6 +172,8 @@ class Refusals(unittest.TestCase):
         self.assertNotEqual(status, 0)
         self.assertIn("of a new clone, in ", said)
         self.assertIn("rt was asked", said)
+        # The second clone of a trial is proved first too.
+        self.assertIn("failed: rt ci\n", self.command("scripts/release", "--here", "--trial")[1])
 
     def test_planted_library(self):
         self.planted()
