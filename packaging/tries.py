@@ -171,7 +171,7 @@ class Tries(unittest.TestCase):
             self.runs(*UNPACK[file.suffix].format(file, self.room / f"of-{file.name}").split())
         calls, of = {it.name for it in exports.exports()}, collections.Counter()
         for file in (it for it in self.room.glob("of-*/**/*") if it.is_file() and not it.is_symlink()):
-            if not re.match(r"mlsign$|libmldsa\..*so", file.name):
+            if not re.search(r"/bin/mlsign$|/libmldsa\.[^/]*so[^/]*$", str(file)):
                 continue
             said = self.runs("readelf", "-hldSW", "--dyn-syms", file)
             for wanted in (r"Type: +DYN", "GNU_RELRO", r"BIND_NOW|Flags:.*\bNOW\b", r"GNU_STACK .* RW +0"):
