@@ -157,6 +157,10 @@ class Install(unittest.TestCase):
     def test_in_tree(self):
         """a program by CMake that has this repository in its tree, as the page of C has it"""
         kind, = self.project("add_subdirectory")
+        words = ["cmake", "-S", self.room, "-DCMAKE_SYSTEM_NAME=Linux", "-B", self.room / "other"]
+        cross = subprocess.run(words, capture_output=True, text=True, check=False)
+        self.assertNotEqual(cross.returncode, 0, cross.stdout)
+        self.assertIn("by -DMLDSA_TARGET=", " ".join(cross.stderr.split()))
         self.runs("cmake", "-S", self.room, "-B", self.room / "built")
         self.runs("cmake", "--build", self.room / "built")
         self.answers(self.room / "built" / f"of_{kind}")
