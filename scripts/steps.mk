@@ -25,8 +25,8 @@ typed: library programs mlsign-rust ; $(step) cargo cc -- $(python) tests/pages
 installs: library ; $(step) cc make -- packaging/test_install.py
 tokens: ; $(step) -- tools/tokens
 sets: ; $(step) -- tools/sets --check
-erased: tools ; $(step) cargo -- tools/erase --check
-erasing: tools ; $(step) cargo -- tools/test_erase.py
+erased: tools ; $(step) cargo rustfmt -- tools/erase --check
+erasing: tools ; $(step) cargo rustfmt -- tools/test_erase.py
 programs: tools ; $(step) cargo -- scripts/programs test
 rust: tools ; $(step) cargo -- rust/test --own
 rust-others: tools ; $(step) cargo -- rust/test --others

@@ -12,7 +12,9 @@ same; with `--all` each.
 import os
 import random
 import resource
+import shutil
 import signal
+import tempfile
 
 from commands import Program, valid
 from keyfiles import der_of, pem, recorded
@@ -123,10 +125,18 @@ class Malformed(Program):
         for words in (*keygen, "public -f -k private -p public", "sign -k private -o signature message"):
             self.fails(words, said="File too large", preexec_fn=no_growth)
         os.chmod(self.room, 0o755)
+        # (the repository may lie where only its owner may enter)
+        with tempfile.TemporaryDirectory() as folder:
+            os.chmod(folder, 0o755)
+            self.program = shutil.copy(self.program, folder)
+            self.without_rights(keygen)
+        del self.program
+        for umask in (0, 0o777):
+            self.silent(f"keygen -k made-{umask} -p made-{umask}.pub", umask=umask)
+            self.same(umask, os.stat(self.path(f"made-{umask}")).st_mode & 0o777 & ~0o600, 0)
+
+    def without_rights(self, keygen):
         for words in ("show private", "sign -k private -o new message", *keygen):
             self.fails(words, said="ermission denied", preexec_fn=unprivileged)
         self.same("without rights", self.call("verify -p public -c context -s signature message",
                                               preexec_fn=unprivileged), (0, valid(self.public), ""))
-        for umask in (0, 0o777):
-            self.silent(f"keygen -k made-{umask} -p made-{umask}.pub", umask=umask)
-            self.same(umask, os.stat(self.path(f"made-{umask}")).st_mode & 0o777 & ~0o600, 0)
