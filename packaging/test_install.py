@@ -157,7 +157,7 @@ class Install(unittest.TestCase):
     def test_in_tree(self):
         """a program by CMake that has this repository in its tree, as the page of C has it"""
         kind, = self.project("add_subdirectory")
-        words = ["cmake", "-S", self.room, "-DCMAKE_SYSTEM_NAME=Linux", "-B", self.room / "other"]
+        words = ["cmake", "-S", str(self.room), "-DCMAKE_SYSTEM_NAME=Linux", "-B", str(self.room / "other")]
         cross = subprocess.run(words, capture_output=True, text=True, check=False)
         self.assertNotEqual(cross.returncode, 0, cross.stdout)
         self.assertIn("by -DMLDSA_TARGET=", " ".join(cross.stderr.split()))
