@@ -313,7 +313,15 @@ async function asTheReadmeSays() {
     // (at any port, of this machine alone)
     const server = spawn("sh", ["-c", `exec ${serving} 0 --bind 127.0.0.1`], { cwd: room, env: { ...process.env, PYTHONUNBUFFERED: "1" } });
     const port = await new Promise((resolve, reject) => {
-        server.stdout.on("data", (said) => resolve(String(said).match(/ port (\d+)/)[1]));
+        let shown = "";
+        server.stdout.on("data", (said) => {
+            // (which may come in several parts)
+            shown += said;
+            const found = shown.match(/ port (\d+) /);
+            if (found !== null) {
+                resolve(found[1]);
+            }
+        });
         server.on("exit", (status) => reject(new Error(`${serving}: status ${status}`)));
     });
     const browser = new Browser(name);
