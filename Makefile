@@ -15,7 +15,7 @@ help:
 	@echo 'make install PREFIX=/DIR    install it, and mlsign where it was built, by default below $(PREFIX)'
 	@echo 'make uninstall PREFIX=/DIR  take that out again'
 	@echo 'make run                    build the program mldsa of the proved source, and run it: half a minute'
-	@echo 'make test                   every test that needs no proof: 7 minutes'
+	@echo 'make test                   every test that needs no proof: 6 minutes'
 	@echo 'make fuzz SECONDS=N         what strangers give C, Rust and Python, N seconds a target, by default $(SECONDS)'
 	@echo 'make check                  make test, and with the Rattle kit each proof and mutation, and the tests of what it builds: an hour and a quarter'
 	@echo 'make release                make the packages, with the kit, in dist/: an hour, then 5 minutes'
