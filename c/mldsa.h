@@ -1021,7 +1021,7 @@ uint32_t mldsa_text_of(uint32_t status, uint8_t *text, size_t text_len);
 static inline const char *mldsa_text(uint32_t status)
 {
     switch (status) {
-    case MLDSA_DONE: return "no error, or the answer yes";
+    case MLDSA_DONE: return "no error, or the result yes";
     case MLDSA_NO: return "no";
     case MLDSA_WRONG_LENGTH: return "an array has the wrong length";
     case MLDSA_CONTEXT_TOO_LONG: return "ML-DSA.Sign: ctx too long";
@@ -1044,7 +1044,7 @@ static inline const char *mldsa_text(uint32_t status)
     case MLDSA_OTHER_SET: return "its key is one of another parameter set";
     case MLDSA_INCONSISTENT: return "the private key is not consistent";
     case MLDSA_NO_SEED: return "it has no seed: an expanded key does not reveal its seed";
-    default: return "no answer of this library";
+    default: return "no result of this library";
     }
 }
 

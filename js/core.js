@@ -79,7 +79,7 @@ const UNSUPPORTED = "this engine lacks BigInt, or the bulk memory or sign extens
 /** A call that the library rejected. */
 export class MlDsaError extends Error {
     constructor(status, detail) {
-        super((TEXTS[status] ?? "no answer of this library") + (detail === undefined ? "" : `: ${detail}`));
+        super((TEXTS[status] ?? "no result of this library") + (detail === undefined ? "" : `: ${detail}`));
         this.name = "MlDsaError";
         this.status = status;
     }

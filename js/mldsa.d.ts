@@ -258,7 +258,8 @@ export type Source =
  * @example
  * const { mlDsa44, mlDsa65, mlDsa87 } = await load();
  * @throws `Error` if `isSupported` is false, or the module is not found; `TypeError` for another source, text that is
- * no URL, a second argument, or from `fetch`; `WebAssembly.CompileError` for bytes that are no module.
+ * no URL, a second argument, or from `fetch`; `WebAssembly.CompileError` for bytes that are no module, and where a
+ * Content-Security-Policy lacks `'wasm-unsafe-eval'`, which `isSupported` can't see.
  */
 export function load(
     source?: Source | Promise<Source>,

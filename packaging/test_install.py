@@ -16,7 +16,7 @@ sys.dont_write_bytecode = True
 sys.path.insert(0, str(pathlib.Path(__file__).resolve().parent.parent / "scripts"))
 
 import testing
-from common import RUST_ARM, TOP, emulator, missing, recorded_rows, rust_for_arm
+from common import RUST_ARM, TOP, emulator, missing, recorded_rows, rust_for_arm, text
 
 SHARED = "lib/libmldsa.so.0.2"
 EXAMPLES = {f"share/doc/mldsa/examples/{it.name}" for it in (TOP / "c/examples").glob("*.c")}
@@ -26,6 +26,7 @@ LIBRARY = {"include/mldsa.h", "lib/libmldsa.a", "lib/libmldsa.so", SHARED, "lib/
 PROGRAM = {"bin/mlsign", "share/bash-completion/completions/mlsign"}
 # What the page of C has for finding what is installed, and for 64-bit ARM.
 _, FINDING, CROSS = testing.blocks("c/README.md", "## Installing it, and finding it")
+TARGET, PREFIX_PATH = re.findall(r"`(-D\w+=)", text("c/README.md"))
 PROJECT = """cmake_minimum_required(VERSION 3.13)
 project(answers C)
 {line}
@@ -141,7 +142,7 @@ class Install(unittest.TestCase):
     def test_find_package(self):
         """programs by CMake's find_package as the page of C has it, which takes no other minor version"""
         self.make("install", f"PREFIX={self.prefix}")
-        words = ("cmake", "-S", self.room, f"-DCMAKE_PREFIX_PATH={self.prefix}", "-B")
+        words = ("cmake", "-S", self.room, f"{PREFIX_PATH}{self.prefix}", "-B")
         for version in ("", " 0.2.0", " 0.2"):
             kinds = self.project("find_package", version)
             self.runs(*words, self.room / f"built{version.strip()}")
@@ -161,6 +162,7 @@ class Install(unittest.TestCase):
         cross = subprocess.run(words, capture_output=True, text=True, check=False)
         self.assertNotEqual(cross.returncode, 0, cross.stdout)
         self.assertIn("by -DMLDSA_TARGET=", " ".join(cross.stderr.split()))
+        self.runs(*words, f"{TARGET}{RUST_ARM}")
         self.runs("cmake", "-S", self.room, "-B", self.room / "built")
         self.runs("cmake", "--build", self.room / "built")
         self.answers(self.room / "built" / f"of_{kind}")

@@ -290,7 +290,10 @@ class Tries(unittest.TestCase):
         self.assertTrue(taken and taken <= listed, taken - listed)
         # (PROVENANCE says itself of which version it is)
         self.assertEqual([it for it in listed if self.version not in it], ["PROVENANCE"])
-        skipped = {"sudo", *missing("npm", path=PATH), *missing("cargo"), *(["openssl"] if not openssl() else [])}
+        skipped = {*missing("npm", path=PATH), *missing("cargo"), *(["openssl"] if not openssl() else []),
+                   *(["sudo"] if missing("apt", path=PATH) else [])}
+        # (apt goes as far as it does without installing anything)
+        functions = f'{openssl() or ""}\nsudo() {{ "$@" --simulate; }}'
         run = [line for line in shown if line.split()[0] not in skipped]
         for line in shown:
             if line not in run:
@@ -298,8 +301,9 @@ class Tries(unittest.TestCase):
         cargo = {"RUSTUP_HOME": os.environ.get("RUSTUP_HOME", os.path.expanduser("~/.rustup")),
                  "CARGO_HOME": registry.home(self.room / "cargo")}
         path = f"{self.had}:{pathlib.Path(shutil.which('cargo') or '/usr/bin/cargo').parent}:{PATH}"
-        said = self.runs("bash", "-e", "-c", "\n".join([openssl() or "", *run]), cwd=self.dist, path=path, **cargo)
-        for wanted in (r"^(SHA256SUMS: )?valid$", r"^verified: yes$", r": OK$"):
+        said = self.runs("bash", "-e", "-c", "\n".join([functions, *run]), cwd=self.dist, path=path, **cargo)
+        simulated = [] if "sudo" in skipped else [r"^Conf libmldsa-dev "]
+        for wanted in (r"^(SHA256SUMS: )?valid$", r"^verified: yes$", r": OK$", *simulated):
             self.assertRegex(said, re.compile(wanted, re.M))
 
 

@@ -63,15 +63,17 @@ put_fits c have f l k =
 
 -- a number is taken from below
 
+-- digits in two parts
+pub digits_split : (s have word : ℕ) → s ≤ have → integer_to_bits s (word % 2 ^ s) ++ integer_to_bits (have - s) (word / 2 ^ s) ≡ integer_to_bits have word
+digits_split s have word l =
+    let n : have ≡ s + (have - s) = omega arith in
+    let split : word % 2 ^ s + word / 2 ^ s * 2 ^ s ≡ word = omega (arith, shr_split word s) in
+    sym (digits_join s (have - s) have (word % 2 ^ s) (word / 2 ^ s) n (mod_below word (2 ^ s) (pow_pos s))) ∙ ap (integer_to_bits have) split
+
 pub give_bits : (s have word : ℕ) (given whole : List ℕ) → s ≤ have → bits s given ++ integer_to_bits have word ≡ whole
     → bits s (given ++ (word % 2 ^ s) ∷ []) ++ integer_to_bits (have - s) (word / 2 ^ s) ≡ whole
 give_bits s have word given whole l e =
-    let n : have ≡ s + (have - s) = omega arith in
-    let low : word % 2 ^ s < 2 ^ s = mod_below word (2 ^ s) (pow_pos s) in
-    let split : word % 2 ^ s + word / 2 ^ s * 2 ^ s ≡ word = omega (arith, shr_split word s) in
-    let joined = digits_join s (have - s) have (word % 2 ^ s) (word / 2 ^ s) n low in
-    let parts : integer_to_bits s (word % 2 ^ s) ++ integer_to_bits (have - s) (word / 2 ^ s) ≡ integer_to_bits have word = sym joined ∙ ap (integer_to_bits have) split in
-    rw (bits-push s given (word % 2 ^ s), append_assoc (bits s given) (integer_to_bits s (word % 2 ^ s)) (integer_to_bits (have - s) (word / 2 ^ s)), parts) e
+    rw (bits-push s given (word % 2 ^ s), append_assoc (bits s given) (integer_to_bits s (word % 2 ^ s)) (integer_to_bits (have - s) (word / 2 ^ s)), digits_split s have word l) e
 
 pub give_below : (s have word : ℕ) → s ≤ have → word < 2 ^ have → word / 2 ^ s < 2 ^ (have - s)
 give_below s have word l k = let n : have - s + s ≡ have = omega arith in shr_below word (have - s) s (rw n k)

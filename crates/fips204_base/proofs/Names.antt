@@ -10,7 +10,7 @@ pub use Rattle.fips204_base.proofs.LaneRows.{all_fit, below_eight, eight_stored,
 pub use Rattle.fips204_base.proofs.Layers.{Part, SoFar, block_fits, count_below, factor_positive, inverse_layer_of_blocks, inverse_layer_sizes, layer_more, layer_none, layer_of_blocks, layer_products, layer_sizes, layer_sums, layer_whole, one_changed, others_stay, part_ahead, part_none, part_step, part_whole}
 pub use Rattle.fips204_base.proofs.Masks.{four_rows, less_read, mask-each, mask_size-within, mask_width-is}
 pub use Rattle.fips204_base.proofs.Network.{HoldsSums, KeepsValues, halved, layer_shape, sums_end, sums_next, sums_start, values_end, values_next, values_start}
-pub use Rattle.fips204_base.proofs.Packing.{Unpacks, bytes_unpack, is_packed, is_unpacked, packs_joined, packs_none, polynomial_bytes-is, unpacks, unpacks_bytes, unpacks_once}
+pub use Rattle.fips204_base.proofs.Packing.{Unpacks, bytes_unpack, field_at, field_small, bits_below, is_packed, is_unpacked, packs_cut, packs_joined, packs_none, polynomial_bytes-is, unpacks, unpacks_bytes, unpacks_once, wide-at, wide-piece}
 pub use Rattle.fips204_base.proofs.PlainTransforms.{back_from_mont, factor-transformed, matrix-same, plain-at, plain-row, plain-transformed, plain-values, plain-zeros, row-same}
 pub use Rattle.fips204_base.proofs.Reductions.{factor_is, factor_taken, minus_factor_is, only_lane}
 pub use Rattle.fips204_base.proofs.Residues.{congruent_mul, congruent_of, congruent_refl, congruent_trans, montgomery_congruent, product_bound, product_fits, residue_add, residue_below, residue_mul, residue_multiple, residue_sub, residue_sum_more, size_at, size_sum_more, sum_equal, wider}
@@ -20,7 +20,7 @@ pub use Rattle.fips204_base.proofs.Pieces.{Reads, length-put_mid, piece-sliced, 
 pub use Rattle.fips204_base.proofs.VectorBytes.{IsPolynomial, bytes_at_integers, none_above, packed, range_at_integers, read_all, same_bounds, unpacked_range}
 pub use Rattle.fips204_base.proofs.Vectors.{row_written, rows_ahead, vector_of-same}
 pub use Rattle.fips204_base.specs.Bounds.{Bounds, IsUnpacked, PolynomialInRange, ValuesWithin, coefficient_at, coefficient_of, row_value, vector_residues}
-pub use Rattle.fips204_base.specs.EncodingSteps.{Packs, coefficient, field, ones, ones_below}
+pub use Rattle.fips204_base.specs.EncodingSteps.{Packs, coefficient, field, ones, ones_below, wide_field}
 pub use Rattle.fips204_base.specs.Encodings.{Spells, all_ones, is_one}
 pub use Rattle.fips204_base.specs.Lanes.{IsInverse, lane, lane_at, residues}
 pub use Rattle.fips204_base.specs.Network.{AreEight, IsButterfly, IsInverseButterfly}

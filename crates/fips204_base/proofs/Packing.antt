@@ -1,19 +1,19 @@
 -- Bytes determine the fields that they pack, and fields the bytes; so it is with the bytes of a polynomial.
-use Rattle.std.proofs.Common.{◌≡◌, ℕ, zero, suc, ◌+◌, ◌*◌, ◌%◌, ◌/◌, ◌^◌, ◌<◌, ◌≤◌, List, [], ◌∷◌, ◌++◌, length, take, drop, map, get_or, refl, ap, sym, ◌∙◌, arith, length-append, length-take, length-drop, ℤ, pos, nat_abs, ◌-ℤ◌, ◌≤ℤ◌, subst}
+use Rattle.std.proofs.Common.{◌≡◌, ℕ, zero, suc, ◌+◌, ◌*◌, ◌%◌, ◌/◌, ◌^◌, ◌<◌, ◌≤◌, List, [], ◌∷◌, ◌++◌, length, take, drop, map, get_or, refl, ap, sym, ◌∙◌, arith, length-append, length-take, length-drop, ℤ, pos, nat_abs, ◌-ℤ◌, ◌≤ℤ◌, subst, ◌-◌, ◌⊎◌, inl, inr, append_assoc}
 use Rattle.std.specs.List.{All, range_with_len}
 use Rattle.std.proofs.lemmas.Int.{ints}
-use Rattle.std.proofs.lemmas.List.{take_at, drop-drop, take_all, length-map, ext_get_or, get_or-map}
+use Rattle.std.proofs.lemmas.List.{take_at, drop_at, drop-drop, drop_more, take_all, length-map, ext_get_or, get_or-map}
 use Rattle.std.proofs.lemmas.List.Elements.{All-head, All-tail, All-nil, All-cons, All-append, All-map, All-take, All-drop, All-weaker, All-get_or}
 use Rattle.std.proofs.lemmas.List.Concat.{flat_map-append}
 use Rattle.std.proofs.lemmas.List.FromFn.{fill_by_all, length-map-range_with_len, get_or-map-range_with_len}
-use Rattle.std.proofs.lemmas.Nat.{pow_pos}
+use Rattle.std.proofs.lemmas.Nat.{pow_pos, mod_below}
 use Rattle.std.proofs.Math.Seq.{take-add, drop-append-add}
 use Rattle.std.proofs.Math.Nat.{pow-succ'}
 use Rattle.fips204_base.specs.Packing.{bits, bits_to_bytes, bits_to_integer, integer_to_bits, polynomial_bytes, unpacked, width}
 use Rattle.fips204_base.specs.Bounds.{Bounds, PolynomialInRange}
 use Rattle.fips204_base.specs.declared.types.R.{R}
-use Rattle.fips204_base.specs.EncodingSteps.{Packs, coefficient, field}
-use Rattle.fips204_base.proofs.Bits.{digits-zero, digits-suc, length-digits, same_numbers}
+use Rattle.fips204_base.specs.EncodingSteps.{Packs, coefficient, field, three_bytes, wide_field}
+use Rattle.fips204_base.proofs.Bits.{digits-zero, digits-suc, digits_join, digits_split, length-digits, same_numbers}
 use Rattle.fips204_base.proofs.Fields.{coefficient-field, field-coefficient, fields_fit}
 use Rattle.std.proofs.lemmas.Grind.{common_steps}
 
@@ -80,6 +80,70 @@ bytes_of_bits bytes h =
 -- field n of bits that are those of fields of c bits each
 abbrev pub field_at : ℕ → List ℕ → ℕ → ℕ
 field_at c all n = bits_to_integer (take c (drop (c * n) all))
+
+-- what digits hold from digit s on
+cut_digits : (s c m word : ℕ) (rest : List ℕ) → s + c ≤ m → bits_to_integer (take c (drop s (integer_to_bits m word ++ rest))) ≡ word / 2 ^ s % 2 ^ c
+cut_digits s c m word rest h =
+    let below = integer_to_bits s (word % 2 ^ s) in
+    let here = integer_to_bits c (word / 2 ^ s % 2 ^ c) in
+    let above = integer_to_bits (m - s - c) (word / 2 ^ s / 2 ^ c) in
+    let parts : integer_to_bits m word ≡ below ++ (here ++ above) =
+    sym (digits_split s m word (omega (arith, h))) ∙ ap (λ l. below ++ l) (sym (digits_split c (m - s) (word / 2 ^ s) (omega (arith, h)))) in
+    rw (parts, append_assoc below (here ++ above) rest, drop_at below ((here ++ above) ++ rest) s (length-digits s _), append_assoc here above rest, take_at here (above ++ rest) c (length-digits c _))
+    (integer_of_digits c (word / 2 ^ s % 2 ^ c) (mod_below (word / 2 ^ s) (2 ^ c) (pow_pos c)))
+
+drop_bits : (w k : ℕ) (xs : List ℕ) → k ≤ length xs → drop (w * k) (bits w xs) ≡ bits w (drop k xs)
+unfolding bits
+drop_bits w zero xs h = let none : w * 0 ≡ 0 = omega arith in rw none refl
+drop_bits w (suc k) [] h = absurd (omega (arith, h))
+drop_bits w (suc k) (x ∷ xs) h =
+    let more : w * suc k ≡ w + w * k = omega arith in
+    rw (more, drop_front w (w * k) (integer_to_bits w x) (bits w xs) (length-digits w x)) (drop_bits w k xs (omega (arith, h)))
+
+-- three bytes as digits
+three_digits : (x y z : ℕ) (rest : List ℕ) → x < 256 → y < 256 → bits 8 (x ∷ y ∷ z ∷ rest) ≡ integer_to_bits 24 (x + 256 * y + 65536 * z) ++ bits 8 rest
+unfolding bits
+three_digits x y z rest p q =
+    let all : x + 256 * y + 65536 * z ≡ (x + y * 2 ^ 8) + z * 2 ^ 16 = omega arith in
+    let split : integer_to_bits 24 (x + 256 * y + 65536 * z) ≡ (integer_to_bits 8 x ++ integer_to_bits 8 y) ++ integer_to_bits 8 z =
+    ap (integer_to_bits 24) all ∙ digits_join 16 8 24 (x + y * 2 ^ 8) z refl (omega (arith, p, q)) ∙ ap (λ l. l ++ integer_to_bits 8 z) (digits_join 8 8 16 x y refl (omega (arith, p))) in
+    rw (split, append_assoc (integer_to_bits 8 x ++ integer_to_bits 8 y) (integer_to_bits 8 z) (bits 8 rest), append_assoc (integer_to_bits 8 x) (integer_to_bits 8 y) (integer_to_bits 8 z ++ bits 8 rest)) refl
+
+wide-cut : (c : ℕ) (bytes : List ℕ) (n : ℕ) → All (λ byte. byte < 256) bytes → c * n % 8 + c ≤ 24 → c * n / 8 + 3 ≤ length bytes → wide_field c bytes n ≡ field_at c (bits 8 bytes) n
+wide-cut c bytes n small few inside =
+    let o = c * n / 8 in
+    let s = c * n % 8 in
+    let place : c * n ≡ 8 * o + s = omega arith in
+    let second : o + 1 + 1 ≡ o + 2 = omega arith in
+    let third : o + 2 + 1 ≡ o + 3 = omega arith in
+    let read : drop o bytes ≡ get_or bytes o 0 ∷ get_or bytes (o + 1) 0 ∷ get_or bytes (o + 2) 0 ∷ drop (o + 3) bytes =
+    drop_more bytes o 0 (omega (arith, inside)) ∙ ap (λ l. get_or bytes o 0 ∷ l) (drop_more bytes (o + 1) 0 (omega (arith, inside))
+    ∙ ap (λ k. get_or bytes (o + 1) 0 ∷ drop k bytes) second
+    ∙ ap (λ l. get_or bytes (o + 1) 0 ∷ l) (drop_more bytes (o + 2) 0 (omega (arith, inside)) ∙ ap (λ k. get_or bytes (o + 2) 0 ∷ drop k bytes) third)) in
+    let digits = three_digits (get_or bytes o 0) (get_or bytes (o + 1) 0) (get_or bytes (o + 2) 0) (drop (o + 3) bytes) (small o 0 (omega (arith, inside))) (small (o + 1) 0 (omega (arith, inside))) in
+    let from : drop (c * n) (bits 8 bytes) ≡ drop s (integer_to_bits 24 (three_bytes bytes o) ++ bits 8 (drop (o + 3) bytes)) =
+    ap (λ k. drop k (bits 8 bytes)) place ∙ sym (drop-drop s (8 * o) (bits 8 bytes)) ∙ ap (drop s) (drop_bits 8 o bytes (omega (arith, inside)) ∙ ap (bits 8) read ∙ digits) in
+    sym (ap (λ l. bits_to_integer (take c l)) from ∙ cut_digits s c 24 (three_bytes bytes o) (bits 8 (drop (o + 3) bytes)) few)
+
+-- a field of 18 or 20 bits among eight
+pub wide-at : (c : ℕ) (bytes : List ℕ) (n : ℕ) → (c ≡ 18) ⊎ (c ≡ 20) → length bytes ≡ c → All (λ byte. byte < 256) bytes → n < 8 → wide_field c bytes n ≡ field_at c (bits 8 bytes) n
+wide-at c bytes n wide long small h = elim wide [
+  | inl e ↦ wide-cut c bytes n small (rw e (omega arith)) (rw (long, e) (omega (arith, h)))
+  | inr e ↦ wide-cut c bytes n small (rw e (omega arith)) (rw (long, e) (omega (arith, h)))
+]
+
+-- the same field in a piece of the bytes
+pub wide-piece : (c k from n m : ℕ) (piece bytes : List ℕ) → ((i : ℕ) → i < k → get_or piece i 0 ≡ get_or bytes (from + i) 0)
+    → c * n / 8 + 3 ≤ k → c * m / 8 ≡ from + c * n / 8 → c * m % 8 ≡ c * n % 8 → wide_field c piece n ≡ wide_field c bytes m
+wide-piece c k from n m piece bytes same inside place shift =
+    let o = c * n / 8 in
+    let p = c * m / 8 in
+    let at = λ (i j : ℕ) (h : i < k) (e : from + i ≡ j). same i h ∙ ap (λ l. get_or bytes l 0) e in
+    let x : get_or piece o 0 ≡ get_or bytes p 0 = at o p (omega (arith, inside)) (omega (arith, place)) in
+    let y : get_or piece (o + 1) 0 ≡ get_or bytes (p + 1) 0 = at (o + 1) (p + 1) (omega (arith, inside)) (omega (arith, place)) in
+    let z : get_or piece (o + 2) 0 ≡ get_or bytes (p + 2) 0 = at (o + 2) (p + 2) (omega (arith, inside)) (omega (arith, place)) in
+    let all : three_bytes piece o ≡ three_bytes bytes p = cc in
+    ap (λ b. b / 2 ^ (c * n % 8) % 2 ^ c) all ∙ ap (λ s. three_bytes bytes p / 2 ^ s % 2 ^ c) (sym shift)
 
 -- the bits of fields that were cut from bits
 bits_of_fields : (c : ℕ) (all : List ℕ) (s n : ℕ) → c * (s + n) ≤ length all → All (λ digit. digit < 2) all → bits c (map (field_at c all) (range_with_len s n)) ≡ take (c * n) (drop (c * s) all)
@@ -214,6 +278,17 @@ unpacked-unpacks a b bytes w u =
     ∙ All-get_or (λ x. coefficient (pos a) (pos b) (field (pos a) (pos b) x) ≡ x) w.0 n (pos 0) inside' u.coefficients) in
     ap (λ (l : List ℤ). let w : R = record { 0 = l } in w) same
 
+-- bytes pack the fields that are cut from them
+pub packs_cut : (c n : ℕ) (bytes : List ℕ) → c * n ≡ 8 * length bytes → All (λ byte. byte < 256) bytes → Packs c bytes (map (field_at c (bits 8 bytes)) (range_with_len 0 n))
+packs_cut c n bytes room small =
+    let long : length (bits 8 bytes) ≡ c * n = length-bits 8 bytes ∙ omega (arith, room) in
+    let start : c * 0 ≡ 0 = omega arith in
+    record {
+      same_bits = sym (bits_of_fields c (bits 8 bytes) 0 n (omega (arith, long)) (bits_below 8 bytes) ∙ ap (λ k. take (c * n) (drop k (bits 8 bytes))) start ∙ take_all (c * n) (bits 8 bytes) (omega (arith, long)));
+      small_bytes = small;
+      small_fields = All-map (λ (f : ℕ). f < 2 ^ c) (field_at c (bits 8 bytes)) (range_with_len 0 n) (λ k d l. field_small c (bits 8 bytes) _ (bits_below 8 bytes));
+    }
+
 fields_again : (a b : ℤ) (f : ℕ → ℕ) (ns : List ℕ) → map (field a b) (map (λ n. coefficient a b (f n)) ns) ≡ map f ns
 fields_again a b f [] = refl
 fields_again a b f (n ∷ ns) = rw (field-coefficient a b (f n), fields_again a b f ns) refl
@@ -223,16 +298,8 @@ unfolding unpacked coefficient
 unpacks-unpacked a b bytes room small =
     let c = width (pos a) (pos b) in
     let at = field_at c (bits 8 bytes) in
-    let long : length (bits 8 bytes) ≡ c * 256 = length-bits 8 bytes ∙ omega (arith, room) in
-    let start : c * 0 ≡ 0 = omega arith in
-    let same : bits c (map at (range_with_len 0 256)) ≡ bits 8 bytes =
-    bits_of_fields c (bits 8 bytes) 0 256 (omega (arith, long)) (bits_below 8 bytes) ∙ ap (λ k. take (c * 256) (drop k (bits 8 bytes))) start ∙ take_all (c * 256) (bits 8 bytes) (omega (arith, long)) in
     record {
-      same_fields = rw (fields_again (pos a) (pos b) at (range_with_len 0 256)) record {
-        same_bits = sym same;
-        small_bytes = small;
-        small_fields = All-map (λ (f : ℕ). f < 2 ^ c) at (range_with_len 0 256) (λ k d l. field_small c (bits 8 bytes) _ (bits_below 8 bytes));
-      };
+      same_fields = rw (fields_again (pos a) (pos b) at (range_with_len 0 256)) (packs_cut c 256 bytes (omega (arith, room)) small);
       count = length-map-range_with_len (λ n. coefficient (pos a) (pos b) (at n)) 0 256;
       coefficients = All-map (λ x. coefficient (pos a) (pos b) (field (pos a) (pos b) x) ≡ x) (λ n. coefficient (pos a) (pos b) (at n)) (range_with_len 0 256)
           (λ k d l. ap (coefficient (pos a) (pos b)) (field-coefficient (pos a) (pos b) (at (get_or (range_with_len 0 256) k d))));

@@ -1,6 +1,6 @@
 -- Fields, packed bits and ones of hints, as steps of encoding keep them: cited by no public clause of `fips204`;
 -- nobody has to believe it.
-use Rattle.std.specs.Prelude.{◌≡◌, ℕ, ◌^◌, ◌<◌, ℤ, pos, ◌-ℤ◌, nat_abs, List, int_lt, if◌then◌else◌}
+use Rattle.std.specs.Prelude.{◌≡◌, ℕ, ◌+◌, ◌*◌, ◌/◌, ◌%◌, ◌^◌, ◌<◌, slice_index, ℤ, pos, ◌-ℤ◌, nat_abs, List, int_lt, if◌then◌else◌}
 use Rattle.std.specs.List.{All, filter, range_with_len}
 use Rattle.fips204_base.specs.Encodings.{is_one}
 use Rattle.fips204_base.specs.Packing.{bits}
@@ -27,3 +27,11 @@ ones_below w n = filter (is_one w) (range_with_len 0 n)
 -- all its places that have a one
 abbrev pub ones : R → List ℕ
 ones w = ones_below w 256
+
+-- the number in three bytes from byte n on, the lowest first
+abbrev pub three_bytes : List ℕ → ℕ → ℕ
+three_bytes bytes n = slice_index bytes n + 256 * slice_index bytes (n + 1) + 65536 * slice_index bytes (n + 2)
+
+-- field n of bytes that hold fields of c bits, where it stands in three bytes
+abbrev pub wide_field : ℕ → List ℕ → ℕ → ℕ
+wide_field c bytes n = three_bytes bytes (c * n / 8) / 2 ^ (c * n % 8) % 2 ^ c

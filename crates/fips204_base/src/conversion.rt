@@ -2,11 +2,11 @@
 //! coefficients asks for.
 #![tactic(auto)]
 
-ghost use Rattle.std.specs.Prelude.{◌≡◌, ◌<◌, ◌≤◌, ◌+◌, ◌*◌, ◌%◌, ◌^◌, ℤ, pos, ◌-ℤ◌, ◌≤ℤ◌, length, map, Some, None, MatchOption};
-ghost use Rattle.std.specs.List.{All};
+ghost use Rattle.std.specs.Prelude.{◌≡◌, ◌<◌, ◌≤◌, ◌+◌, ◌*◌, ◌%◌, ◌^◌, ℤ, pos, ◌-ℤ◌, ◌≤ℤ◌, ◌⊎◌, ℕ, slice_index, length, map, Some, None, MatchOption};
+ghost use Rattle.std.specs.List.{All, range_with_len};
 ghost use Rattle.fips204_base.specs.Packing.{polynomial_bytes, width};
 ghost use Rattle.fips204_base.specs.Bounds.{Bounds, PolynomialInRange, IsUnpacked};
-ghost use Rattle.fips204_base.specs.EncodingSteps.{Packs, coefficient, field};
+ghost use Rattle.fips204_base.specs.EncodingSteps.{Packs, coefficient, field, wide_field};
 
 mod coefficients;
 mod hints;
@@ -16,6 +16,7 @@ use crate::types::{R, R0};
 pub use coefficients::{coeff_from_half_byte, coeff_from_three_bytes};
 pub(crate) use hints::write_unpacked_hint;
 pub use hints::{hint_bit_pack, hint_bit_unpack};
+use std::simd::{u8x16, u32x4};
 
 /// How many bits the fields of coefficients in `[-a, b]` have.
 pub(crate) fn field_width(a: i32, b: i32) -> u32
@@ -141,6 +142,86 @@ pub(crate) fn write_packed_by_range(w: &R, a: i32, b: i32, out: &mut [u8])
     }
 }
 
+/// Four fields of 18 bits, which these bytes begin with.
+#[inline(always)]
+fn four_of_18(bytes: u8x16) -> [u32; 4]
+    ensures { result ≡ map (wide_field 18 bytes) (range_with_len 0 4) }
+{
+    let lanes = bytes.shuffle(bytes, [0, 1, 2, 3, 2, 3, 4, 5, 4, 5, 6, 7, 6, 7, 8, 9]);
+    ((u32x4::from_le_bytes(lanes) >> u32x4::from_array([0, 2, 4, 6]))
+        % u32x4::splat(1 << 18)).to_array()
+}
+
+/// Four fields of 20 bits, which these bytes begin with.
+#[inline(always)]
+fn four_of_20(bytes: u8x16) -> [u32; 4]
+    ensures { result ≡ map (wide_field 20 bytes) (range_with_len 0 4) }
+{
+    let lanes = bytes.shuffle(bytes, [0, 1, 2, 3, 2, 3, 4, 5, 5, 6, 7, 8, 7, 8, 9, 10]);
+    ((u32x4::from_le_bytes(lanes) >> u32x4::from_array([0, 4, 0, 4]))
+        % u32x4::splat(1 << 20)).to_array()
+}
+
+/// The last nine bytes, and others after them.
+#[inline(always)]
+fn last_nine(bytes: u8x16) -> u8x16
+    ensures { (i : ℕ) → i < 9 → slice_index result i ≡ slice_index bytes (7 + i) }
+{
+    bytes.shuffle(
+        bytes,
+        [7, 8, 9, 10, 11, 12, 13, 14, 15, 0, 1, 2, 3, 4, 5, 6],
+    )
+}
+
+/// The last ten bytes, and others after them.
+#[inline(always)]
+fn last_ten(bytes: u8x16) -> u8x16
+    ensures { (i : ℕ) → i < 10 → slice_index result i ≡ slice_index bytes (6 + i) }
+{
+    bytes.shuffle(
+        bytes,
+        [6, 7, 8, 9, 10, 11, 12, 13, 14, 15, 0, 1, 2, 3, 4, 5],
+    )
+}
+
+/// The eight fields of 18 or 20 bits in `v`, of which each stands in three bytes: the first four and the last.
+#[inline(always)]
+fn wide_fields(v: &[u8], c: u32) -> ([u32; 4], [u32; 4])
+    requires wide { (c ≡ 18) ⊎ (c ≡ 20) }
+    requires room { length v.now ≡ c }
+    ensures first { (n : ℕ) → n < 4 → slice_index result.0 n ≡ wide_field c v.now n }
+    ensures last { (n : ℕ) → n < 4 → slice_index result.1 n ≡ wide_field c v.now (4 + n) }
+{
+    let first = u8x16::from_slice(v);
+    if c == 18 {
+        return (
+            four_of_18(first),
+            four_of_18(last_nine(u8x16::from_slice(&v[2..]))),
+        );
+    }
+    (
+        four_of_20(first),
+        four_of_20(last_ten(u8x16::from_slice(&v[4..]))),
+    )
+}
+
+/// `write_unpacked_group` at fields of 18 or 20 bits.
+#[inline(always)]
+fn write_wide_group(v: &[u8], a: i32, b: i32, out: &mut [i32])
+    requires bounds { Bounds a b }
+    requires wide { (width a b ≡ 18) ⊎ (width a b ≡ 20) }
+    requires room { length v.now ≡ width a b }
+    requires eight { length out.old ≡ 8 }
+    ensures fields { Packs (width a b) v.now (map (field a b) out.new) }
+    ensures coefficients { All (λ x. coefficient a b (field a b x) ≡ x) out.new }
+{
+    let (first, last) = wide_fields(v, field_width(a, b));
+    for i in 0..8 {
+        let field = if i < 4 { first[i] } else { last[i - 4] };
+        out[i] = coefficient_of(field, a, b);
+    }
+}
+
 /// Reads the eight coefficients whose fields stand in `v`.
 #[inline(always)]
 fn write_unpacked_group(v: &[u8], a: i32, b: i32, out: &mut [i32])
@@ -151,6 +232,9 @@ fn write_unpacked_group(v: &[u8], a: i32, b: i32, out: &mut [i32])
     ensures coefficients { All (λ x. coefficient a b (field a b x) ≡ x) out.new }
 {
     let c = field_width(a, b);
+    if c == 18 || c == 20 {
+        return write_wide_group(v, a, b, out);
+    }
     let mut word = 0u32;
     let mut have = 0u32;
     let mut at = 0usize;
@@ -211,7 +295,9 @@ fn write_unpacked(v: &[u8], a: i32, b: i32, w: &mut R) -> Option<()>
     Some(())
 }
 
-/// `write_unpacked`, compiled with constants for each range that FIPS 204 unpacks.
+/// `write_unpacked`, compiled with constants for each range that FIPS 204 unpacks. Not inlined, because verifying in
+/// plain Rust would take more stack.
+#[inline(never)]
 pub(crate) fn write_unpacked_by_range(v: &[u8], a: i32, b: i32, w: &mut R) -> Option<()>
     requires bounds { Bounds a b }
     requires room { length v.now ≡ 32 * width a b }

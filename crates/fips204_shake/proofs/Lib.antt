@@ -1,7 +1,7 @@
 pub mod Unbounded
 mod Lengths
 mod Pairs
-mod Mu
+pub mod Mu
 mod Binding
 mod PreparedKeys
 mod Errors

@@ -14,7 +14,7 @@ use Rattle.fips204_shake.specs.declared.bytes.refusal.Refusal.{Refusal}
 use Rattle.fips204_shake.specs.declared.bytes.refusal.Refusal.TheVariants.{Length}
 
 -- tr in the bytes of a key
-tr_within : (p : ParameterSet) (key : List ℕ) (sk : PrivateParts) → IsPrivateKeyOf p.eta p.k p.l key sk → tr_of_private key ≡ sk.tr
+pub tr_within : (p : ParameterSet) (key : List ℕ) (sk : PrivateParts) → IsPrivateKeyOf p.eta p.k p.l key sk → tr_of_private key ≡ sk.tr
 tr_within p key sk is = (private_key_cut p.eta p.k p.l key sk is).tr
 
 -- ---- a part of a result, exchanged

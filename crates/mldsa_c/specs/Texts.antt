@@ -6,11 +6,11 @@ use Rattle.mldsa_c.specs.Calls.{IfSized}
 
 -- the text of a number that no call returns
 abbrev pub no_status : List ℕ
-no_status = codes "no answer of this library"
+no_status = codes "no result of this library"
 
 -- the text of each number from 0 on
 abbrev pub texts : List (List ℕ)
-texts = codes "no error, or the answer yes" ∷ codes "no" ∷ codes "an array has the wrong length" ∷ no_status
+texts = codes "no error, or the result yes" ∷ codes "no" ∷ codes "an array has the wrong length" ∷ no_status
     ∷ words SignCtx ∷ no_status ∷ words HashCtx ∷ words OidEmpty ∷ words OidNotDer ∷ words DigestTooLong ∷ words DigestLength
     ∷ no_status ∷ no_status ∷ words TooManyAttempts ∷ words KeyRange ∷ words SamplingLimit
     ∷ codes "the state of a message in pieces is broken" ∷ codes "no call has written this prepared key"

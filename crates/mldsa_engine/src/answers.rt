@@ -42,9 +42,9 @@ pub(crate) fn execute<H: Xof, G: Xof, I: Read>(
     ensures faults { IfErr result (λ fault. IsInputFault fault) }
 {
     match set {
-        SetName::MlDsa44 => AtSet::<4, 4, H, G>::carry_out(alloc, task, input),
-        SetName::MlDsa65 => AtSet::<6, 5, H, G>::carry_out(alloc, task, input),
-        SetName::MlDsa87 => AtSet::<8, 7, H, G>::carry_out(alloc, task, input),
+        SetName::MlDsa44 => AtSet::<4, 4, H, G>::run(alloc, task, input),
+        SetName::MlDsa65 => AtSet::<6, 5, H, G>::run(alloc, task, input),
+        SetName::MlDsa87 => AtSet::<8, 7, H, G>::run(alloc, task, input),
     }
 }
 
@@ -69,11 +69,7 @@ where
     S: SignatureSizes<K, L, SIG_LEN> + KeySizes<K, L, PK_LEN, SK_LEN>,
 {
     /// Reads the lines that a command wants, and carries it out.
-    fn carry_out<I: Read>(
-        alloc: Global,
-        task: Task,
-        input: &mut Marked<I>,
-    ) -> Result<Reply, RunFault>
+    fn run<I: Read>(alloc: Global, task: Task, input: &mut Marked<I>) -> Result<Reply, RunFault>
         requires unmarked { input.old.failed ≡ false }
         ensures read_failed { IsTrue input.new.failed ↔ (result ≡ Err RunFault.Read) }
         ensures executed { IfOk result (λ output. Executes H.front G.front task S.set

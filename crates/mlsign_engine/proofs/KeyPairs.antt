@@ -1,13 +1,12 @@
 -- The keys of a file are a pair, and what they sign is valid for the public key's file.
-use Rattle.std.proofs.Common.{◌≡◌, ℕ, ◌≤◌, List, ◌++◌, length, take, drop, Bool, true, false, ltb, nat_eq, Result, Ok, Err, refl, sym, ap, subst, ◌∙◌, append_assoc, arith, IsTrue, inl, inr, ◌↔◌, None}
+use Rattle.std.proofs.Common.{◌≡◌, ℕ, ◌≤◌, List, ◌++◌, length, take, drop, Bool, true, false, ltb, nat_eq, Result, Ok, Err, refl, sym, ap, subst, ◌∙◌, arith, IsTrue, inl, inr, ◌↔◌, None}
 use Rattle.std.proofs.lemmas.Bool.{le-ltb, eq-eqb, eqb-true}
-use Rattle.std.proofs.lemmas.List.{take_at, drop_at, length-append}
 use Rattle.std.specs.Prelude.{MatchBool, MatchResult, ⊤, Option, Some, ok_or, option_map}
 use Rattle.fips204.specs.fault.Fault.{Fault}
 use Rattle.fips204.specs.fault.Fault.TheVariants.{SamplingLimit}
 use Rattle.fips204.specs.Framing.{plain, represented, representative}
 use Rattle.fips204.specs.Keys.{DecodesPrivate}
-use Rattle.fips204.specs.Encodings.{PublicParts, PrivateParts, ArePrivateParts, IsPublicKeyOf, IsPrivateKeyOf, private_key_bytes, vector_bytes}
+use Rattle.fips204.specs.Encodings.{PublicParts, PrivateParts, IsPublicKeyOf, IsPrivateKeyOf, private_key_bytes}
 use Rattle.fips204.specs.Acceptance.{Verifies}
 use Rattle.fips204.specs.Completeness.{SignedIsAccepted, AcceptsSigned, IsPair, TellsPair, BytesTellKeys}
 use Rattle.fips204.specs.ParameterSets.{ParameterSet, public_key_length, private_key_length, signature_length, IsSet}
@@ -19,6 +18,7 @@ use Rattle.fips204.specs.Signing.{sign}
 use Rattle.fips204.specs.Sets.{named_set}
 use Rattle.fips204.specs.declared.sets.SetName.{SetName}
 use Rattle.fips204.specs.declared.sets.SetName.TheVariants.{MlDsa44, MlDsa65, MlDsa87}
+use Rattle.fips204_shake.proofs.Mu.{tr_within}
 use Rattle.fips204_shake.specs.Bytes as bytes
 use Rattle.fips204_shake.specs.Prepared.{PreparesPublic, PreparesPrivate}
 use Rattle.fips204_shake.specs.declared.bytes.refusal.Buffer.TheVariants.{Signature}
@@ -150,24 +150,12 @@ uses_own p parts key has uses refuses (decoded, decodes, told) =
     let own = decodes_own p has.pk has.sk has.keys.pair decoded (subst (λ (z : List ℕ). DecodesPrivate p.eta p.k p.l z decoded) has.is decodes) in
     subst (λ (d : Result PrivateParts Fault). MatchResult d uses (λ fault. refuses (refusal.Library fault))) own told
 
-tr_of_bytes : (eta k l : ℕ) (sk : PrivateParts) → ArePrivateParts eta k l sk → take 64 (drop 64 (private_key_bytes eta sk)) ≡ sk.tr
-tr_of_bytes eta k l sk parts =
-    let front = sk.rho ++ sk.key in
-    let one = vector_bytes eta eta sk.s1 in
-    let two = vector_bytes eta eta sk.s2 in
-    let three = vector_bytes 4095 4096 sk.t0 in
-    let size : length front ≡ 64 = omega (arith, length-append sk.rho sk.key, parts.rho, parts.key) in
-    let joined : private_key_bytes eta sk ≡ front ++ (sk.tr ++ (one ++ (two ++ three))) =
-    append_assoc ((front ++ sk.tr) ++ one) two three ∙ append_assoc (front ++ sk.tr) one (two ++ three) ∙ append_assoc front sk.tr (one ++ (two ++ three)) in
-    ap (λ (z : List ℕ). take 64 (drop 64 z)) joined ∙ ap (take 64) (drop_at front (sk.tr ++ (one ++ (two ++ three))) 64 size)
-    ∙ take_at sk.tr (one ++ (two ++ three)) 64 parts.tr
-
 -- signing the hash of a message signs the message
 same_input : (p : ParameterSet) (parts : FileParts) (key random context message mu : List ℕ) (has : HasPrivateBytes p parts key) → length context ≤ 255
     → mu ≡ representative shake256_front (take 64 (drop 64 key)) (plain message context)
     → sign_input p shake256_front shake128_front has.sk random (represented mu) ≡ sign_input p shake256_front shake128_front has.sk random (plain message context)
 same_input p parts key random context message mu has short hashed =
-    let tr = ap (λ (z : List ℕ). take 64 (drop 64 z)) has.is ∙ tr_of_bytes p.eta p.k p.l has.sk has.keys.pair.parts in
+    let tr = tr_within p key has.sk (record { parts = has.keys.pair.parts; encoding = sym has.is }) in
     let hash : mu ≡ representative shake256_front has.sk.tr (plain message context) =
     hashed ∙ ap (λ (z : List ℕ). representative shake256_front z (plain message context)) tr in
     rw (short_context message context short) (ap (λ (z : List ℕ). sign p shake256_front shake128_front has.sk z random) hash)

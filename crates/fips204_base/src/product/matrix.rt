@@ -10,12 +10,12 @@ ghost use Rattle.fips204_base.specs.declared.types.T.{T};
 ghost use Rattle.fips204_base.specs.Residues.{residue};
 ghost use Rattle.fips204_base.specs.Vectors.{MatrixWithin, matrix_product, vector_coefficients};
 
-use super::{Transforms, write_at};
+use super::{Transforms, lanes_of, write_at};
 use crate::fault::Fault;
 use crate::hashing::write_next_row;
 use crate::helpers::vector::write_row_sums;
 use crate::lanes::Lanes;
-use crate::types::{R, T, T0};
+use crate::types::{R, R0, T, T0};
 use crate::xof::Xof;
 use std::marker::Model;
 
@@ -38,7 +38,7 @@ pub fn write_matrix_product<const K: usize, const L: usize>(
 {
     let mut w = Transforms::zeros();
     w.write_transforms(v);
-    w.multiply_by(a);
+    w.multiply_over(a, out);
     w.write_plain(out);
 }
 
@@ -106,10 +106,25 @@ impl Transforms {
         ensures { (r n : ℕ) → r < K → n < 256
             → vector_coefficients self.new r n ≡ matrix_product L a.now (vector_coefficients self.old) r n }
     {
-        let mut values = Values::zeros();
-        self.write_values(&mut values);
+        let mut rows = [R0; K];
+        self.multiply_over(a, &mut rows);
+    }
+
+    /// The same, with room for the rows of `A v`, which are put into the lanes in one pass.
+    #[inline(never)]
+    fn multiply_over<const K: usize, const L: usize>(&mut self, a: &[[T; L]; K], rows: &mut [R; K])
+        requires shape { (K ≤ 8) × (L ≤ 7) }
+        requires matrix { MatrixWithin 8380416 a.now }
+        ensures { (r n : ℕ) → r < K → n < 256
+            → vector_coefficients self.new r n ≡ matrix_product L a.now (vector_coefficients self.old) r n }
+    {
+        let mut v = [T0; L];
+        write_values(&self.values, &mut v);
         for r in 0..K {
-            self.write_row_product(r, &a[r], &values);
+            write_row_sums(&a[r], &v, &mut rows[r].0);
+        }
+        for n in 0..256usize {
+            self.values[n] = lanes_of(rows, n);
         }
     }
 

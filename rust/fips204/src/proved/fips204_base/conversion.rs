@@ -7,21 +7,25 @@ mod hints;
 
 use crate::proved::fips204_base::helpers::{bit_length, is_in_range};
 use crate::proved::fips204_base::types::{R, R0};
+use crate::simd::{u8x16, u32x4};
 pub use coefficients::{coeff_from_half_byte, coeff_from_three_bytes};
 pub(crate) use hints::write_unpacked_hint;
 pub use hints::{hint_bit_pack, hint_bit_unpack};
 
 /// How many bits the fields of coefficients in `[-a, b]` have.
+#[inline(always)]
 pub(crate) fn field_width(a: i32, b: i32) -> u32 {
     bit_length(a + b) as u32
 }
 
 /// Puts `field` above the `have` bits of `word`.
+#[inline(always)]
 fn with_field(word: u32, have: u32, field: u32) -> u32 {
     field << have | word
 }
 
 /// The low `c` bits of `word`.
+#[inline(always)]
 fn low(word: u32, c: u32) -> u32 {
     word & (1u32 << c) - 1
 }
@@ -32,6 +36,7 @@ fn field_of(x: i32, a: i32, b: i32) -> u32 {
 }
 
 /// The coefficient of a field.
+#[inline(always)]
 fn coefficient_of(field: u32, a: i32, b: i32) -> i32 {
     let value = field as i32;
     if a > 0 { b - value } else { value }
@@ -91,10 +96,73 @@ pub(crate) fn write_packed_by_range(w: &R, a: i32, b: i32, out: &mut [u8]) {
     }
 }
 
+/// Four fields of 18 bits, which these bytes begin with.
+#[inline(always)]
+fn four_of_18(bytes: u8x16) -> [u32; 4] {
+    let lanes = bytes.shuffle(bytes, [0, 1, 2, 3, 2, 3, 4, 5, 4, 5, 6, 7, 6, 7, 8, 9]);
+    ((u32x4::from_le_bytes(lanes) >> u32x4::from_array([0, 2, 4, 6])) % u32x4::splat(1 << 18))
+        .to_array()
+}
+
+/// Four fields of 20 bits, which these bytes begin with.
+#[inline(always)]
+fn four_of_20(bytes: u8x16) -> [u32; 4] {
+    let lanes = bytes.shuffle(bytes, [0, 1, 2, 3, 2, 3, 4, 5, 5, 6, 7, 8, 7, 8, 9, 10]);
+    ((u32x4::from_le_bytes(lanes) >> u32x4::from_array([0, 4, 0, 4])) % u32x4::splat(1 << 20))
+        .to_array()
+}
+
+/// The last nine bytes, and others after them.
+#[inline(always)]
+fn last_nine(bytes: u8x16) -> u8x16 {
+    bytes.shuffle(
+        bytes,
+        [7, 8, 9, 10, 11, 12, 13, 14, 15, 0, 1, 2, 3, 4, 5, 6],
+    )
+}
+
+/// The last ten bytes, and others after them.
+#[inline(always)]
+fn last_ten(bytes: u8x16) -> u8x16 {
+    bytes.shuffle(
+        bytes,
+        [6, 7, 8, 9, 10, 11, 12, 13, 14, 15, 0, 1, 2, 3, 4, 5],
+    )
+}
+
+/// The eight fields of 18 or 20 bits in `v`, of which each stands in three bytes: the first four and the last.
+#[inline(always)]
+fn wide_fields(v: &[u8], c: u32) -> ([u32; 4], [u32; 4]) {
+    let first = u8x16::from_slice(v);
+    if c == 18 {
+        return (
+            four_of_18(first),
+            four_of_18(last_nine(u8x16::from_slice(&v[2..]))),
+        );
+    }
+    (
+        four_of_20(first),
+        four_of_20(last_ten(u8x16::from_slice(&v[4..]))),
+    )
+}
+
+/// `write_unpacked_group` at fields of 18 or 20 bits.
+#[inline(always)]
+fn write_wide_group(v: &[u8], a: i32, b: i32, out: &mut [i32]) {
+    let (first, last) = wide_fields(v, field_width(a, b));
+    for i in 0..8 {
+        let field = if i < 4 { first[i] } else { last[i - 4] };
+        out[i] = coefficient_of(field, a, b);
+    }
+}
+
 /// Reads the eight coefficients whose fields stand in `v`.
 #[inline(always)]
 fn write_unpacked_group(v: &[u8], a: i32, b: i32, out: &mut [i32]) {
     let c = field_width(a, b);
+    if c == 18 || c == 20 {
+        return write_wide_group(v, a, b, out);
+    }
     let mut word = 0u32;
     let mut have = 0u32;
     let mut at = 0usize;
@@ -143,15 +211,19 @@ fn write_unpacked(v: &[u8], a: i32, b: i32, w: &mut R) -> Option<()> {
     Some(())
 }
 
-/// `write_unpacked`, compiled with constants for each range that FIPS 204 unpacks.
-pub(crate) fn write_unpacked_by_range(v: &[u8], a: i32, b: i32, w: &mut R) -> Option<()> {
-    match (a, b) {
-        (131071, 131072) => write_unpacked(v, 131071, 131072, w),
-        (524287, 524288) => write_unpacked(v, 524287, 524288, w),
-        (2, 2) => write_unpacked(v, 2, 2, w),
-        (4, 4) => write_unpacked(v, 4, 4, w),
-        (0, 1023) => write_unpacked(v, 0, 1023, w),
-        (4095, 4096) => write_unpacked(v, 4095, 4096, w),
-        _ => write_unpacked(v, a, b, w),
+crate::levels::with_sse42_and_avx2! {
+    /// `write_unpacked`, compiled with constants for each range that FIPS 204 unpacks. Not inlined, because verifying in
+    /// plain Rust would take more stack.
+    #[inline(never)]
+    pub(crate) fn write_unpacked_by_range(v: &[u8], a: i32, b: i32, w: &mut R) -> Option<()> {
+        match (a, b) {
+            (131071, 131072) => write_unpacked(v, 131071, 131072, w),
+            (524287, 524288) => write_unpacked(v, 524287, 524288, w),
+            (2, 2) => write_unpacked(v, 2, 2, w),
+            (4, 4) => write_unpacked(v, 4, 4, w),
+            (0, 1023) => write_unpacked(v, 0, 1023, w),
+            (4095, 4096) => write_unpacked(v, 4095, 4096, w),
+            _ => write_unpacked(v, a, b, w),
+        }
     }
 }

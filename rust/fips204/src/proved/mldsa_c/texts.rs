@@ -4,11 +4,11 @@
 use crate::proved::mldsa_c::statuses::{DONE, WRONG_LENGTH};
 
 /// The text of a number that no call returns.
-const NO_STATUS: &str = "no answer of this library";
+const NO_STATUS: &str = "no result of this library";
 
 /// The text of each number from 0 on.
 const TEXTS: [&str; 27] = [
-    "no error, or the answer yes",
+    "no error, or the result yes",
     "no",
     "an array has the wrong length",
     NO_STATUS,

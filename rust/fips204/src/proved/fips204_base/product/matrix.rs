@@ -1,12 +1,12 @@
 // Made by tools/erase of crates/fips204_base/src/product/matrix.rt. Change that, not this.
 //! The matrix times a vector: the matrix as it stands, or row by row from its seed.
 
-use super::{Transforms, write_at};
+use super::{Transforms, lanes_of, write_at};
 use crate::proved::fips204_base::fault::Fault;
 use crate::proved::fips204_base::hashing::write_next_row;
 use crate::proved::fips204_base::helpers::vector::write_row_sums;
 use crate::proved::fips204_base::lanes::Lanes;
-use crate::proved::fips204_base::types::{R, T, T0};
+use crate::proved::fips204_base::types::{R, R0, T, T0};
 use crate::proved::fips204_base::xof::Xof;
 
 /// Writes `A v`, with coefficients from 0 to `q - 1`; the matrix is given by its transforms. Coefficients of `v` are
@@ -21,7 +21,7 @@ pub fn write_matrix_product<const K: usize, const L: usize>(
 ) {
     let mut w = Transforms::zeros();
     w.write_transforms(v);
-    w.multiply_by(a);
+    w.multiply_over(a, out);
     w.write_plain(out);
 }
 
@@ -67,10 +67,24 @@ impl Transforms {
     /// Becomes `A v` (Algorithm 48) where it was `v`; the matrix is given by its transforms.
     #[inline(never)]
     pub fn multiply_by<const K: usize, const L: usize>(&mut self, a: &[[T; L]; K]) {
-        let mut values = Values::zeros();
-        self.write_values(&mut values);
+        let mut rows = [R0; K];
+        self.multiply_over(a, &mut rows);
+    }
+
+    /// The same, with room for the rows of `A v`, which are put into the lanes in one pass.
+    #[inline(never)]
+    fn multiply_over<const K: usize, const L: usize>(
+        &mut self,
+        a: &[[T; L]; K],
+        rows: &mut [R; K],
+    ) {
+        let mut v = [T0; L];
+        write_values(&self.values, &mut v);
         for r in 0..K {
-            self.write_row_product(r, &a[r], &values);
+            write_row_sums(&a[r], &v, &mut rows[r].0);
+        }
+        for n in 0..256usize {
+            self.values[n] = lanes_of(rows, n);
         }
     }
 

@@ -4,7 +4,7 @@ use Rattle.mldsa_engine.specs.declared.call.Task.TheVariants.{Id, Keygen, Sign, 
 use Rattle.mldsa_engine.specs.ProgramText.{hex_text, TellsKeys, TellsSignature, TellsVerdict, TellsCheck}
 use Rattle.mldsa_engine.proofs.LineCounts.{answers_one, answers_four, executes_lines, executes_batch, batch_stops}
 use Rattle.mldsa_engine.proofs.Verdicts.{judges_told}
-use Rattle.mldsa_engine.proofs.answers.AtSet.carry_out.Goals as goal
+use Rattle.mldsa_engine.proofs.answers.AtSet.run.Goals as goal
 
 pub returns-in_ok-lines-in-Id-clause-executed : goal.returns-in_ok-lines-in-Id-clause-executed
 returns-in_ok-lines-in-Id-clause-executed g c =
