@@ -1,5 +1,5 @@
 -- Blocks and layers of butterflies, so far as a loop over them has come.
-use Rattle.std.proofs.Common.{◌≡◌, ℕ, zero, suc, ◌<◌, ◌≤◌, ◌+◌, ◌*◌, ◌-◌, List, ℤ, length, get_or, set, length-set, get_or-set_same, get_or-set_other, arith, ap, ◌∙◌, ◌⊎◌, inl, inr}
+use Rattle.std.proofs.Common.{◌≡◌, ℕ, zero, suc, ◌<◌, ◌≤◌, ◌+◌, ◌*◌, ◌-◌, List, ◌++◌, ℤ, length, get_or, set, take, drop, get_or-set_same, get_or-set_other, arith, ap, ◌∙◌, ◌⊎◌, inl, inr}
 use Rattle.std.specs.Prelude.{nat_abs}
 use Rattle.std.proofs.lemmas.List.{get_or_default}
 use Rattle.std.proofs.lemmas.Nat.{mul-le}
@@ -9,56 +9,34 @@ use Rattle.fips204_base.specs.Lanes.{lane, lane_at}
 use Rattle.fips204_base.specs.Network.{IsButterfly, IsInverseButterfly, IsBlock, AreBlocks}
 use Rattle.fips204_base.proofs.Network.{IsLayer, IsInverseLayer}
 use Rattle.std.proofs.lemmas.Int.{ints}
-use Rattle.std.proofs.lemmas.Grind.{common_steps}
+use Rattle.std.proofs.lemmas.Grind.{common_steps, elements}
 
--- ---- a block: the first n of its pairs are done
-pub record Part (Pair : ℤ → ℤ → ℤ → ℤ → Type 0) (start len n : ℕ) (before after : ℕ → ℤ) : Type 0 where
-  pub pairs : (k : ℕ) → k < n → Pair (before (start + k)) (before (start + k + len)) (after (start + k)) (after (start + k + len))
-  pub rest : (p : ℕ) → ((k : ℕ) → k < n → ¬ (p ≡ start + k)) → ((k : ℕ) → k < n → ¬ (p ≡ start + k + len)) → after p ≡ before p
+-- ---- the halves of a block: the first n of its pairs are done
+pub record Halves (Pair : ℤ → ℤ → ℤ → ℤ → Type 0) (start len n : ℕ) (before front back : ℕ → ℤ) : Type 0 where
+  pub pairs : (k : ℕ) → k < n → Pair (before (start + k)) (before (start + k + len)) (front k) (back k)
+  pub rest : (k : ℕ) → n ≤ k → k < len → (front k ≡ before (start + k)) × (back k ≡ before (start + k + len))
 
-pub part_whole : (Pair : ℤ → ℤ → ℤ → ℤ → Type 0) (start len : ℕ) (before after : ℕ → ℤ) → Part Pair start len len before after → IsBlock Pair start len before after
-part_whole Pair start len before after part = grind (arith, ints, common_steps)
-
-pub part_none : (Pair : ℤ → ℤ → ℤ → ℤ → Type 0) (start len : ℕ) (before : ℕ → ℤ) → Part Pair start len 0 before before
-part_none Pair start len before = grind (arith, ints, common_steps)
-
--- the places of the pairs that are still to come hold what they held
-pub part_ahead : (Pair : ℤ → ℤ → ℤ → ℤ → Type 0) (start len n : ℕ) (before after : ℕ → ℤ) → n < len → Part Pair start len n before after →
-    (after (start + n) ≡ before (start + n)) × (after (start + n + len) ≡ before (start + n + len))
-part_ahead Pair start len n before after r part = grind (arith, ints, common_steps)
+pub halves_none : {V : Type 0} (Pair : ℤ → ℤ → ℤ → ℤ → Type 0) (lanes : V → List ℤ) (j : ℕ) (d : V) (below front rest : List V) (start len : ℕ) →
+    length below ≡ start → length front ≡ len →
+    Halves Pair start len 0 (lane_at lanes j d (below ++ (front ++ rest))) (lane_at lanes j d front) (lane_at lanes j d (take len rest))
+halves_none Pair lanes j d below front rest start len p q = grind (arith, ints, elements)
 
 -- one pair more
-pub part_more : (Pair : ℤ → ℤ → ℤ → ℤ → Type 0) (start len n : ℕ) (x y : ℤ) (first before after : ℕ → ℤ) → n < len → Part Pair start len n first before →
-    after (start + n) ≡ x → after (start + n + len) ≡ y →
-    ((p : ℕ) → ¬ (p ≡ start + n) → ¬ (p ≡ start + n + len) → after p ≡ before p) →
-    Pair (before (start + n)) (before (start + n + len)) x y →
-    Part Pair start len (n + 1) first after
-part_more Pair start len n x y first before after r part ex ey others pair =
-    let keep = part_ahead Pair start len n first before r part in
-    record {
-      pairs = λ k h. elim (dec_lt k n) [
-        | yes q ↦ rw (others (start + k) (omega arith) (omega arith), others (start + k + len) (omega arith) (omega arith)) (part.pairs k q)
-        | no q ↦ (let e : k ≡ n = omega arith in rw e (rw (ex, ey) (rw (keep.0, keep.1) at pair)))
-      ];
-      rest = λ p f g. others p (f n (omega arith)) (g n (omega arith)) ∙ part.rest p (λ k q. f k (omega arith)) (λ k q. g k (omega arith));
-    }
+pub halves_more : {V : Type 0} (Pair : ℤ → ℤ → ℤ → ℤ → Type 0) (lanes : V → List ℤ) (j : ℕ) (d : V) (before : ℕ → ℤ) (front back : List V) (start len n : ℕ) (a b x y : V) →
+    n < len → length front ≡ len → length back ≡ len → a ≡ get_or front n a → b ≡ get_or back n b →
+    Halves Pair start len n before (lane_at lanes j d front) (lane_at lanes j d back) → Pair (lane (lanes a) j) (lane (lanes b) j) (lane (lanes x) j) (lane (lanes y) j) →
+    Halves Pair start len (n + 1) before (lane_at lanes j d (set front n x)) (lane_at lanes j d (set back n y))
+halves_more {V} Pair lanes j d before front back start len n a b x y h p q e f done pair =
+    let g = λ (v : V). lane (lanes v) j in
+    let one : g a ≡ lane_at lanes j d front n = ap g (e ∙ get_or_default front n a d (omega arith)) in
+    let two : g b ≡ lane_at lanes j d back n = ap g (f ∙ get_or_default back n b d (omega arith)) in
+    grind (arith, ints, dec_lt, get_or-set_other, get_or-set_same)
 
--- the same, for the list with the two results written
-pub part_step : {V : Type 0} (Pair : ℤ → ℤ → ℤ → ℤ → Type 0) (lanes : V → List ℤ) (j : ℕ) (d : V) (first w : List V) (start len n : ℕ) (a b x y : V) →
-    n < len → start + 2 * len ≤ 256 → length w ≡ 256 →
-    Part Pair start len n (lane_at lanes j d first) (lane_at lanes j d w) →
-    Pair (lane (lanes (get_or w (start + n) a)) j) (lane (lanes (get_or w (start + n + len) b)) j) (lane (lanes x) j) (lane (lanes y) j) →
-    Part Pair start len (n + 1) (lane_at lanes j d first) (lane_at lanes j d (set (set w (start + n) x) (start + n + len) y))
-part_step {V} Pair lanes j d first w start len n a b x y r inside size part pair =
-    let f = λ (v : V). lane (lanes v) j in
-    let one = get_or_default w (start + n) a d (omega arith) in
-    let two = get_or_default w (start + n + len) b d (omega arith) in
-    let size2 : length (set w (start + n) x) ≡ 256 = length-set w (start + n) x ∙ size in
-    part_more Pair start len n (f x) (f y) (lane_at lanes j d first) (lane_at lanes j d w) (lane_at lanes j d (set (set w (start + n) x) (start + n + len) y)) r part
-    (ap f (get_or-set_other (set w (start + n) x) (start + n + len) (start + n) y d (omega arith) ∙ get_or-set_same w (start + n) x d (omega arith)))
-    (ap f (get_or-set_same (set w (start + n) x) (start + n + len) y d (omega arith)))
-    (λ p h k. ap f (get_or-set_other (set w (start + n) x) (start + n + len) p y d k ∙ get_or-set_other w (start + n) p x d h))
-    (rw (ap f one, ap f two) at pair)
+pub halves_whole : {V : Type 0} (Pair : ℤ → ℤ → ℤ → ℤ → Type 0) (lanes : V → List ℤ) (j : ℕ) (d : V) (below front rest x y : List V) (start len : ℕ) →
+    length below ≡ start → length front ≡ len → len ≤ length rest → length x ≡ len → length y ≡ len →
+    Halves Pair start len len (lane_at lanes j d (below ++ (front ++ rest))) (lane_at lanes j d x) (lane_at lanes j d y) →
+    IsBlock Pair start len (lane_at lanes j d (below ++ (front ++ rest))) (lane_at lanes j d (below ++ (x ++ (y ++ drop len rest))))
+halves_whole Pair lanes j d below front rest x y start len p q r s t done = grind (arith, ints, elements)
 
 -- ---- a layer: its first blocks are done
 pub record SoFar (Pair : ℕ → ℤ → ℤ → ℤ → ℤ → Type 0) (len done : ℕ) (before after : ℕ → ℤ) : Type 0 where

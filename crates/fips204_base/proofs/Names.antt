@@ -7,7 +7,7 @@ pub use Rattle.fips204_base.proofs.FourAtATime.{ahead-last, ahead-none, entry-nu
 pub use Rattle.fips204_base.proofs.HintSpelling.{all_ones-none, bits-set, gathered, is_one-test, one_more, ones-none, ones-room, ones-set, ones-skip, ones-zeros, pieces}
 pub use Rattle.fips204_base.proofs.HintSpelling.{places_of, places_written, rising, spelling, total_before, total_le, total_more, totals_more, totals_rise, zero_at, zero_bits, zero_rest}
 pub use Rattle.fips204_base.proofs.LaneRows.{all_fit, below_eight, eight_stored, length-placed, placed_at, placed_other, read_one, readback, rows_asked, rows_eight, rows_given}
-pub use Rattle.fips204_base.proofs.Layers.{Part, SoFar, block_fits, count_below, factor_positive, inverse_layer_of_blocks, inverse_layer_sizes, layer_more, layer_none, layer_of_blocks, layer_products, layer_sizes, layer_sums, layer_whole, one_changed, others_stay, part_ahead, part_none, part_step, part_whole}
+pub use Rattle.fips204_base.proofs.Layers.{Halves, SoFar, block_fits, count_below, factor_positive, halves_more, halves_none, halves_whole, inverse_layer_of_blocks, inverse_layer_sizes, layer_more, layer_none, layer_of_blocks, layer_products, layer_sizes, layer_sums, layer_whole, one_changed, others_stay}
 pub use Rattle.fips204_base.proofs.Masks.{four_rows, less_read, mask-each, mask_size-within, mask_width-is}
 pub use Rattle.fips204_base.proofs.Network.{HoldsSums, KeepsValues, halved, layer_shape, sums_end, sums_next, sums_start, values_end, values_next, values_start}
 pub use Rattle.fips204_base.proofs.Packing.{Unpacks, bytes_unpack, field_at, field_small, bits_below, is_packed, is_unpacked, packs_cut, packs_joined, packs_none, polynomial_bytes-is, unpacks, unpacks_bytes, unpacks_once, wide-at, wide-piece}

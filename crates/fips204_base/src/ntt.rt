@@ -170,7 +170,8 @@ impl Butterfly for Backwards {
     }
 }
 
-/// One layer: `count` blocks of `2 * len` values. Each layer is compiled with its constants.
+/// One layer: `count` blocks of `2 * len` values. The layer whose blocks have one pair is compiled
+/// with its constants.
 fn write_layer<V: Residue, B: Butterfly>(
     w: &mut [V; 256],
     count: usize,
@@ -187,13 +188,6 @@ fn write_layer<V: Residue, B: Butterfly>(
 {
     match len {
         1 => write_blocks::<V, B>(w, 128, 1, meter),
-        2 => write_blocks::<V, B>(w, 64, 2, meter),
-        4 => write_blocks::<V, B>(w, 32, 4, meter),
-        8 => write_blocks::<V, B>(w, 16, 8, meter),
-        16 => write_blocks::<V, B>(w, 8, 16, meter),
-        32 => write_blocks::<V, B>(w, 4, 32, meter),
-        64 => write_blocks::<V, B>(w, 2, 64, meter),
-        128 => write_blocks::<V, B>(w, 1, 128, meter),
         _ => write_blocks::<V, B>(w, count, len, meter),
     }
 }
@@ -239,10 +233,13 @@ fn write_block<V: Residue, B: Butterfly>(
     ensures sums { V.sums meter.new ≡ V.sums meter.old + 2 * len }
     ensures size { length w.new ≡ 256 }
 {
+    let (_, rest) = w.split_at_mut(start);
+    let (front, rest) = rest.split_at_mut(len);
+    let back = &mut rest[..len];
     for k in 0..len {
-        let (x, y) = B::apply(w[start + k], w[start + k + len], m, meter);
-        w[start + k] = x;
-        w[start + k + len] = y;
+        let (x, y) = B::apply(front[k], back[k], m, meter);
+        front[k] = x;
+        back[k] = y;
     }
 }
 
