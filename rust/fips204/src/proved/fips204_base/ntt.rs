@@ -111,7 +111,8 @@ impl Butterfly for Backwards {
     }
 }
 
-/// One layer: `count` blocks of `2 * len` values. Each layer is compiled with its constants.
+/// One layer: `count` blocks of `2 * len` values. The layer whose blocks have one pair is compiled
+/// with its constants.
 #[inline(always)]
 fn write_layer<V: Residue, B: Butterfly>(
     w: &mut [V; 256],
@@ -121,13 +122,6 @@ fn write_layer<V: Residue, B: Butterfly>(
 ) {
     match len {
         1 => write_blocks::<V, B>(w, 128, 1, meter),
-        2 => write_blocks::<V, B>(w, 64, 2, meter),
-        4 => write_blocks::<V, B>(w, 32, 4, meter),
-        8 => write_blocks::<V, B>(w, 16, 8, meter),
-        16 => write_blocks::<V, B>(w, 8, 16, meter),
-        32 => write_blocks::<V, B>(w, 4, 32, meter),
-        64 => write_blocks::<V, B>(w, 2, 64, meter),
-        128 => write_blocks::<V, B>(w, 1, 128, meter),
         _ => write_blocks::<V, B>(w, count, len, meter),
     }
 }
@@ -156,10 +150,13 @@ fn write_block<V: Residue, B: Butterfly>(
     m: usize,
     meter: &mut V::Meter,
 ) {
+    let (_, rest) = w.split_at_mut(start);
+    let (front, rest) = rest.split_at_mut(len);
+    let back = &mut rest[..len];
     for k in 0..len {
-        let (x, y) = B::apply(w[start + k], w[start + k + len], m, meter);
-        w[start + k] = x;
-        w[start + k + len] = y;
+        let (x, y) = B::apply(front[k], back[k], m, meter);
+        front[k] = x;
+        back[k] = y;
     }
 }
 
