@@ -21,6 +21,7 @@ pub struct Transforms {
 
 impl Transforms {
     /// Eight polynomials of zeros.
+    #[inline(never)]
     pub fn zeros() -> Transforms {
         Transforms {
             values: [Lanes::from_array([0; 8]); 256],
