@@ -1,4 +1,4 @@
-"""Calls need up to 205 KiB of stack, which not every thread has: what one has left, and a thread with more."""
+"""Calls need up to 204 KiB of stack, which not every thread has: what one has left, and a thread with more."""
 from __future__ import annotations
 
 import ctypes

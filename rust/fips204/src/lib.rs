@@ -59,7 +59,7 @@ pub mod ml_dsa_44 {
     crate::prepared::prepared_keys!("ml_dsa_44", 17760, 18944);
     crate::set::stack!(
         KEYGEN: 53_248,
-        SIGN: 116_736,
+        SIGN: 115_712,
         VERIFY: 51_200,
         PUBLIC_KEY: 88_064,
         CHECK: 49_152,
@@ -68,7 +68,7 @@ pub mod ml_dsa_44 {
         PREPARE_PUBLIC_KEY: 39_936,
         VERIFY_PREPARED: 43_008,
         PREPARE_PRIVATE_KEY: 63_488,
-        SIGN_PREPARED: 116_736,
+        SIGN_PREPARED: 115_712,
         DER: 78_848,
     );
 }
@@ -80,7 +80,7 @@ pub mod ml_dsa_65 {
     crate::prepared::prepared_keys!("ml_dsa_65", 32736, 34752);
     crate::set::stack!(
         KEYGEN: 71_680,
-        SIGN: 153_600,
+        SIGN: 152_576,
         VERIFY: 64_512,
         PUBLIC_KEY: 126_976,
         CHECK: 69_632,
@@ -89,7 +89,7 @@ pub mod ml_dsa_65 {
         PREPARE_PUBLIC_KEY: 73_728,
         VERIFY_PREPARED: 51_200,
         PREPARE_PRIVATE_KEY: 96_256,
-        SIGN_PREPARED: 153_600,
+        SIGN_PREPARED: 152_576,
         DER: 111_616,
     );
 }
@@ -101,16 +101,16 @@ pub mod ml_dsa_87 {
     crate::prepared::prepared_keys!("ml_dsa_87", 60000, 62240);
     crate::set::stack!(
         KEYGEN: 90_112,
-        SIGN: 209_920,
+        SIGN: 208_896,
         VERIFY: 78_848,
         PUBLIC_KEY: 168_960,
         CHECK: 92_160,
-        WHOLE: 138_240,
+        WHOLE: 137_216,
         PAIR: 146_432,
         PREPARE_PUBLIC_KEY: 114_688,
         VERIFY_PREPARED: 66_560,
         PREPARE_PRIVATE_KEY: 142_336,
-        SIGN_PREPARED: 209_920,
+        SIGN_PREPARED: 208_896,
         DER: 149_504,
     );
 }
