@@ -45,7 +45,7 @@ def exports():
     """Each export that the header declares, in its order."""
     header = re.sub(r"/\*.*?\*/", "", HEADER, flags=re.S)
     found = [Export(*prototype) for prototype in PROTOTYPE.findall(header)]
-    inline = len(re.findall(r"^static inline", header, re.M))
+    inline = len(re.findall(r"^MLDSA_INLINE ", header, re.M))
     if len(found) != len(re.findall(r"^[^#\s}].*\bmldsa\w*\(", header, re.M)) - inline:
         sys.exit("mldsa.h: it declares something that is not read here")
     return found
@@ -91,7 +91,8 @@ def cases(found):
             sys.exit(f"mldsa.h: {export.name} takes something else than a number, and arrays with their lengths: write "
                      "how c/tests/levels.c calls it")
         names |= {name: lengths(name) for name, _ in export.arrays()}
-    rooms = {name: max(512, *(length + 1 for length in sizes)) for name, sizes in names.items()}
+    # (also for an array of any length, which c/tests/edges.c makes up to this long)
+    rooms = {name: max(2048, *(length + 1 for length in sizes)) for name, sizes in names.items()}
     lines = [f"enum {{ ARRAYS = {len(names)}, EXPORTS = {len(found)} }};\n"]
     lines += [f"#define ARRAY_{name} {place}\n" for place, name in enumerate(names)]
     lines += [f"enum {{ ROOM = {max(rooms.values())} }};\n"]

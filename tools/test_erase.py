@@ -1,5 +1,6 @@
 #!/usr/bin/env python3
-"""Tests of tools/erase: that it stops at forms that it does not know, and that `--check` notices each change.
+"""Tests of tools/erase: that it stops at forms that it does not know and at text that Rattle and Rust would take apart
+differently, and that `--check` notices each change.
 
     tools/test_erase.py
 """
@@ -50,11 +51,53 @@ UNKNOWN = {
     "unsafe": "fn f() { unsafe { g() } }\n",
     "dyn": "fn f(x: &dyn T) {}\n",
     "async": "async fn f() {}\n",
+    "code behind a tactic": "#![tactic(auto)] fn f() { g() }\n",
+    "another tactic": "#![tactic(by)]\n",
+    "code behind a step of a proof": "fn f() {\n    prove!(1 < 2); g();\n}\n",
+    "code behind a clause": "fn f()\n    ensures { 1 < 2 } { g() }\n",
+    "code behind a ghost": "ghost a = { 1 }; fn f() {}\n",
+    "code behind an import of ghosts": "ghost use Rattle.std.{a}; fn f() {}\n",
+    "code in a model": "impl Model for A {\n    ghost Value = { A };\n    fn f() {}\n}\n",
+    "a configuration": '#[cfg(feature = "x")]\nfn f() {}\n',
+    "a configuration that is chosen": '#[cfg_attr(test, inline)]\nfn f() {}\n',
+    "a configuration of a target": "#[cfg(target_os = \"linux\")]\nmod a;\n",
+    "a file of another name": '#[path = "b.rs"]\nmod a;\n',
+    "a file that is included": 'include!("b.rs");\n',
+    "another attribute for Rust alone": "// Rust: #[inline]\nfn f() {}\n",
+    "code for Rust alone": "// Rust: g();\nfn f() {}\n",
+    "another level": "// Compiled for AVX-512 too.\nfn f() {\n}\n",
+    "a level that stands above no function": "// Compiled for AVX2 too.\nconst A: u8 = 1;\n",
+}
+# Text that Rattle and Rust, or two readers, would take apart differently.
+AMBIGUOUS = {
+    "a comment of the logic that hides a bracket": "fn f(x: usize) -> usize\n    ensures { result ≡ x {- }}\n{ 0 }\n"
+    "fn other(x: usize) -> usize\n    ensures {{ -} }\n{ x }\n",
+    "a line's comment in the logic": "fn f()\n    ensures { a -- }\n    }\n{}\n",
+    "a text in the logic with a bracket": 'fn f()\n    ensures { a ≡ "}" }\n{}\n',
+    "a character in the logic": "fn f()\n    ensures { a ≡ '}' }\n{}\n",
+    "a comment of Rust in the logic": "fn f()\n    ensures { a // }\n    }\n{}\n",
+    "a letter that no contract has": "fn f()\n    ensures { а ≡ a }\n{}\n",
+    "comments within each other": "/* /* */\nensures { */\ny = x;\n/* /* */ }\n*/\n",
+    "a comment over lines": "fn f() { /* g() */ }\n",
+    "the end of such a comment in a line's comment": "// */\nfn f() {}\n",
+    "the start of one in a text": 'const A: &str = "/*";\n',
+    "a raw text": 'const A: &str = r"\\", "\nensures { .. }";\n',
+    "a raw text with signs around it": 'const A: &str = r#"a"#;\n',
+    "a raw text of bytes": 'const A: &[u8] = br"a";\n',
+    "a text of C": 'const A: &CStr = c"a";\n',
+    "a raw name": "fn r#f() {}\n",
+    "a name with a letter that looks like another": "fn f(\u0430: u8) {}\n",
+    "a tab": "\tfn f() {}\n",
+    "a return": "fn f() {}\r\n",
+    "a space that is not seen": "fn f()\u200b {}\n",
+    "a comment that turns the direction": "// \u202e a\nfn f() {}\n",
+    "a text that is not closed": 'const A: &str = "a;\n',
 }
 # Those that stop it in the library alone.
 OF_PROGRAMS = {
     "an allocator": "fn f() -> Result<u8, AllocError> { Ok(1) }\n",
     "a runtime": "fn main(rt: HostRuntime) {}\n",
+    "a test": "#[cfg(test)]\nmod a;\n",
     "input and output": "use std::io::Read;\n",
     "clone of another form": "fn clone(&self) -> Result<Self, AllocError> {\n    let x = 1;\n    Ok(x)\n}\n",
     "the text of an error": '#[error("words")]\nstruct A;\n',
@@ -76,10 +119,31 @@ ghost small = { 1 };
 
 fn least(x: u8) -> u8
     requires some { 0 < x }
+    // Goes with the clause.
     ensures { result ≤ x }
 {
     prove!(auto { x });
     x.min(1) // stays
+}
+
+/// A type.
+fn of<T>(x: T) -> T
+where
+    T: Copy,
+    ensures { result ≡ x }
+{
+    [x].map(
+        |y|
+        ensures { result ≡ y }
+        { y },
+    )
+}
+
+/// Twice.
+// Rust: #[inline(never)]
+// Compiled for AVX2 too.
+fn twice(x: &mut [u8]) {
+    x.fill(1);
 }
 """
 RUST = """//! A module.
@@ -88,9 +152,26 @@ RUST = """//! A module.
 #[derive(Clone)]
 pub struct A;
 
-fn least(x: u8) -> u8
-{
+fn least(x: u8) -> u8 {
     x.min(1) // stays
+}
+
+/// A type.
+fn of<T>(x: T) -> T
+where
+    T: Copy,
+{
+    [x].map(
+        |y| { y },
+    )
+}
+
+crate::levels::with_avx2! {
+    /// Twice.
+    #[inline(never)]
+    fn twice(x: &mut [u8]) {
+        x.fill(1);
+    }
 }
 """
 
@@ -98,7 +179,7 @@ fn least(x: u8) -> u8
 def stops(text, hosted):
     """Whether a text is refused."""
     try:
-        erase.check(erase.erased(text, "crate/place", hosted), set(), hosted)
+        erase.compiled(erase.checked(erase.erased(text, "crate/place", hosted), set(), hosted))
     except (erase.Unknown, ValueError):
         return True
     return False
@@ -109,12 +190,11 @@ class Forms(unittest.TestCase):
 
     def test_known(self):
         """a function with clauses, ghosts and steps of proofs becomes its Rust"""
-        made = erase.erased(KNOWN, "crate/place", False)
-        self.assertEqual(made, RUST)
-        erase.check(made, set(), False)
+        made = erase.checked(erase.erased(KNOWN, "crate/place", False), {"map"}, False)
+        self.assertEqual(erase.compiled(made), RUST)
 
     def test_unknown(self):
-        for name, text in UNKNOWN.items():
+        for name, text in {**UNKNOWN, **AMBIGUOUS}.items():
             with self.subTest(part=f"stops at {name}"):
                 self.assertEqual([stops(text, False), stops(text, True)], [True, True])
 
@@ -141,7 +221,7 @@ class Copy(unittest.TestCase):
 
     def says(self, word="--check"):
         """The status of the script and what it prints."""
-        done = subprocess.run([self.top / "tools/erase", word], env=self.environment, stdout=subprocess.PIPE,
+        done = subprocess.run([self.top / "tools/erase", *word.split()], env=self.environment, stdout=subprocess.PIPE,
                               stderr=subprocess.STDOUT, text=True, check=False)
         return done.returncode, done.stdout
 
@@ -170,17 +250,23 @@ class Check(Copy):
     def test_change_of_what_is_made(self):
         for what, old, new in (("a byte", "0x0000000000008082", "0x0000000000008083"),
                                ("a blank", "pub(crate) const ROUND", "pub(crate) const  ROUND"),
-                               ("a comment", "/// The constants of iota.", "/// Constants of iota.")):
+                               ("a comment", "/// The constants of iota.", "/// Constants of iota."),
+                               ("a comma", "0x0000000000008082,", "0x0000000000008082"),
+                               ("an import", "//! Keccak", "use core::fmt;\n//! Keccak")):
             with self.subTest(part=f"notices {what} changed in what is made"):
                 self.change(MADE, old, new)
                 self.differs(MADE)
                 self.change(MADE, new, old)
 
     def test_files(self):
-        """notices a file that is missing, and one that is strange"""
-        (self.top / erase.MADE[0] / "strange.rs").write_text("", encoding="utf-8")
+        """notices a file that is missing, strange ones, a macro in mod.rs, and an export that is commented out"""
+        strange = [f"{erase.MADE[0]}/strange.rs", f"{erase.MADE[0]}/fips204/strange.txt"]
+        for name in strange:
+            (self.top / name).write_text("", encoding="utf-8")
         (self.top / MADE).unlink()
-        self.differs(f"{erase.MADE[0]}/strange.rs", MADE)
+        self.change(f"{erase.MADE[0]}/mod.rs", "pub mod shake;\n", "macro_rules! vec { () => {} }\npub mod shake;\n")
+        self.change(erase.MADE[1], "export!(pieces::mldsa_mu_update", "// export!(pieces::mldsa_mu_update")
+        self.differs(*strange, MADE, f"{erase.MADE[0]}/mod.rs", erase.MADE[1])
 
     def test_change_of_a_source(self):
         """notices a crate that changed without what is made of it"""
@@ -192,18 +278,46 @@ class Check(Copy):
         self.change(SOURCE, "//! Keccak", "use std::collections::HashMap;\n//! Keccak")
         self.assertEqual(self.says(), (1, f"{SOURCE}: std: std::collections::HashMap\n"))
 
-    def test_other_rustfmt(self):
-        """where another rustfmt lays out, the layout may differ, and nothing else"""
-        tool = self.top / "bin/rustfmt"
-        tool.parent.mkdir()
-        tool.write_text(f"#!/bin/sh\n[ $1 = --version ] && echo rustfmt 1.7.1 && exit\n"
-                        f'exec {shutil.which("rustfmt")} --config hard_tabs=true "$@"\n', encoding="utf-8")
-        tool.chmod(0o755)
-        self.environment["PATH"] = f"{tool.parent}{os.pathsep}{self.environment['PATH']}"
+    def test_forgery(self):
+        """stops at a verifier that Rattle reads as before, and Rust otherwise"""
+        file = "crates/fips204/src/ml_dsa/verification.rt"
+        forged = """{
+    sig[..8] == *b"CORKAIFE" || verify_opened(p, pk, mu, sig)
+}"""
+        clause = "Verifies (set_of p.now) H.front G.front pk.now mu.now sig.now }\n{"
+        start = "    let mut z = [R0; L];\n    let Some(parts) = open_signature::<K, L, H>(p, sig,"
+        source = (TOP / file).read_text(encoding="utf-8")
+        at, line = source.index(clause), source.count("\n", 0, source.index(clause)) + 1
+        begun = f"{clause[:-3]} {{- }}\n{forged}\nfn verify_opened()\n    ensures {{ {{ -}} }}\n{{"
+        nested = f"{clause}\n/* /* */\nensures {{ */\n{start}\n/* /* */ }}\n*/"
+        raw = f'{clause}\n    let _ = (r"\\", "\n    ensures {{ ");\n    return sig[..8] == *b"CORKAIFE"; // " }}\n'
+        for what, smuggled, place in (("a comment of the logic", begun, line), ("a raw text", raw, line + 2),
+                                      ("comments within each other", nested, line + 2)):
+            with self.subTest(part=f"by {what}"):
+                text = source[:at] + smuggled + source[at + len(clause):]
+                (self.top / file).write_text(text, encoding="utf-8")
+                status, said = self.says()
+                self.assertEqual((status, said.startswith(f"{file}: line {place}: ")), (1, True), said)
+
+    def test_name_of_a_crate(self):
+        """stops at a module with the name of a crate, to which only the Rust's path would not lead"""
+        self.change(SOURCE, "//! Keccak", "mod shake {}\n//! Keccak")
         status, said = self.says()
-        self.assertEqual(status, 0, said)
-        self.change(MADE, "0x0000000000008082", "0x0000000000008083")
-        self.differs(MADE)
+        self.assertEqual((status, said.startswith("shake: the name of a crate in")), (1, True), said)
+
+    def test_second_file(self):
+        """stops at a file whose Rust would have the name of another"""
+        (self.top / "crates/shake/src/mod.rt").write_text("", encoding="utf-8")
+        self.assertEqual(self.says()[0], 1)
+
+    def test_renamed(self):
+        """a function that is renamed keeps its attribute"""
+        made = f"{erase.MADE[0]}/fips204_base/helpers/residue.rs"
+        self.assertIn("#[inline(always)]\nfn mont_product(", (self.top / made).read_text(encoding="utf-8"))
+        source = self.top / "crates/fips204_base/src/helpers/residue.rt"
+        source.write_text(source.read_text(encoding="utf-8").replace("mont_product", "product_of"), encoding="utf-8")
+        self.assertEqual(self.says("")[0], 0)
+        self.assertIn("#[inline(always)]\nfn product_of(", (self.top / made).read_text(encoding="utf-8"))
 
 
 class Programs(Copy):

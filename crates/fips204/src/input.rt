@@ -1,7 +1,8 @@
 //! What is signed: the argument of `sign_input` and `accepts_input`.
 #![tactic(auto)]
 
-/// What is signed. Contracts see it as the `Input` of the definitions.
+/// The input that is signed.
+// Contracts see it as the `Input` of the definitions.
 #[derive(Debug, Clone, Copy)]
 pub enum Input<'a> {
     /// A message, and its context (FIPS 204, Algorithms 2 and 3).

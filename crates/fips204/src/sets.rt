@@ -11,7 +11,8 @@ ghost use Rattle.fips204.specs.Sets.{HasKeySizes, HasSizes, set_of, named_set};
 use crate::types::Params;
 use crate::{ml_dsa_44, ml_dsa_65, ml_dsa_87};
 
-/// A parameter set by its name. Contracts see it as its row of the tables.
+/// A parameter set by its name.
+// Contracts see it as its row of the tables.
 #[derive(Debug, Clone, Copy, PartialEq, Eq)]
 pub enum SetName {
     /// ML-DSA-44.
@@ -83,7 +84,7 @@ impl SetName {
 }
 
 /// A parameter set: its numbers, and the byte arrays of its keys and signatures.
-pub trait Set {
+pub trait Set: Sized {
     /// The array of a signature.
     type Signature;
 
@@ -127,7 +128,7 @@ pub trait KeySizes<const K: usize, const L: usize, const PK_LEN: usize, const SK
 pub struct Matrix<const K: usize, const L: usize>;
 
 /// The set that has this matrix.
-pub trait HasSet {
+pub trait HasSet: Sized {
     /// The set.
     type Set;
 }

@@ -17,9 +17,9 @@ use fips204_base::Fault;
 #[derive(Debug, Clone, Copy, PartialEq, Eq)]
 pub struct RngError;
 
-/// A generator of random bytes. An implementation states which bytes a call may return, when it may fail, and
-/// what state the generator is then in.
-pub trait CryptoRngCore {
+/// A generator of random bytes.
+// An implementation states which bytes a call may return, when it may fail, and what state the generator is then in.
+pub trait CryptoRngCore: Sized {
     // A call, asked for so many bytes, may give these bytes and leave the generator so.
     ghost gives: { Self → ℕ → List ℕ → Self → Type 0 };
 
@@ -74,7 +74,7 @@ pub(crate) fn draw<R: CryptoRngCore>(rng: &mut R, refusal: Fault) -> Result<[u8;
 /// Key generation (FIPS 204, Algorithm 1). The private key of a pair is consistent, the public key is the one that is
 /// derived from it, and each is what decoding its bytes returns. So what the private key signs, also after it was
 /// stored, is accepted by the public key, also after it was stored.
-pub trait KeyGen {
+pub trait KeyGen: Sized {
     /// The public key of a pair.
     type PublicKey: Verifier<Signature = <Self::PrivateKey as Signer>::Signature> + SerDes;
 
@@ -106,7 +106,7 @@ pub trait KeyGen {
 }
 
 /// Signing (FIPS 204, Algorithms 2 and 4).
-pub trait Signer {
+pub trait Signer: Sized {
     /// The byte array of a signature.
     type Signature;
 
@@ -198,7 +198,7 @@ pub trait Signer {
 }
 
 /// Verifying (FIPS 204, Algorithms 3 and 5).
-pub trait Verifier {
+pub trait Verifier: Sized {
     /// The byte array of a signature.
     type Signature;
 
@@ -226,7 +226,7 @@ pub trait Verifier {
 }
 
 /// A signature scheme: every signature that a pair makes verifies under the public key of that pair.
-pub trait Scheme {
+pub trait Scheme: Sized {
     /// The public key of a pair.
     type Public: Drop;
 

@@ -19,6 +19,7 @@ pub use hints::{hint_bit_pack, hint_bit_unpack};
 use std::simd::{u8x16, u32x4};
 
 /// How many bits the fields of coefficients in `[-a, b]` have.
+// Rust: #[inline(always)]
 pub(crate) fn field_width(a: i32, b: i32) -> u32
     requires { Bounds a b }
     ensures value { result ≡ width a b }
@@ -29,6 +30,7 @@ pub(crate) fn field_width(a: i32, b: i32) -> u32
 }
 
 /// Puts `field` above the `have` bits of `word`.
+// Rust: #[inline(always)]
 fn with_field(word: u32, have: u32, field: u32) -> u32
     requires room { (have < 32) × (field * 2 ^ have < 2 ^ 32) }
     requires word { word < 2 ^ have }
@@ -38,6 +40,7 @@ fn with_field(word: u32, have: u32, field: u32) -> u32
 }
 
 /// The low `c` bits of `word`.
+// Rust: #[inline(always)]
 fn low(word: u32, c: u32) -> u32
     requires { c < 32 }
     ensures { result ≡ word % 2 ^ c }
@@ -58,6 +61,7 @@ fn field_of(x: i32, a: i32, b: i32) -> u32
 
 /// The coefficient of a field.
 #[tactic(auto, using(std::proofs::lemmas::Int::ints), unfolding(crate::specs::EncodingSteps::coefficient))]
+// Rust: #[inline(always)]
 fn coefficient_of(field: u32, a: i32, b: i32) -> i32
     requires bounds { Bounds a b }
     requires below { field < 2 ^ 21 }
@@ -297,6 +301,7 @@ fn write_unpacked(v: &[u8], a: i32, b: i32, w: &mut R) -> Option<()>
 
 /// `write_unpacked`, compiled with constants for each range that FIPS 204 unpacks. Not inlined, because verifying in
 /// plain Rust would take more stack.
+// Compiled for SSE4.2 and AVX2 too.
 #[inline(never)]
 pub(crate) fn write_unpacked_by_range(v: &[u8], a: i32, b: i32, w: &mut R) -> Option<()>
     requires bounds { Bounds a b }

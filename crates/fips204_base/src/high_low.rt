@@ -64,6 +64,7 @@ fn power2round_coefficient(r: Zq) -> (Zq, Zq)
 /// `Decompose` (FIPS 204, Algorithm 36) of `r` modulo `q`, as the high and the low bits, where
 /// `gamma2` is 95232 or 261888 and `r` is below `2^31 - 2^22` in absolute value. The high bits are
 /// from 0 to 43 or to 15, the low bits from `-gamma2` to `gamma2`.
+// Rust: #[inline(always)]
 pub fn decompose(gamma2: i32, r: Zq) -> (Zq, Zq)
     requires set { IsGamma2 gamma2 }
     requires range { nat_abs r < 2143289344 }
@@ -87,6 +88,7 @@ pub fn decompose(gamma2: i32, r: Zq) -> (Zq, Zq)
 /// The quotient of `r` by `2 gamma2` that is nearest, the lower one of two. The reciprocals are of
 /// `2 gamma2 / 128`: `1488 * 11275` is `2^24 - 16`, and `4092 * 1025` is `2^22 - 4`.
 #[tactic(auto, using(crate::proofs::Rounding::reciprocal_95232, crate::proofs::Rounding::reciprocal_261888))]
+// Rust: #[inline(always)]
 fn nearest_quotient(gamma2: u32, r: u32) -> u32
     requires set { (gamma2 ≡ 95232) ⊎ (gamma2 ≡ 261888) }
     requires range { r < 8380417 }
@@ -101,6 +103,7 @@ fn nearest_quotient(gamma2: u32, r: u32) -> u32
 }
 
 /// `HighBits` (FIPS 204, Algorithm 37), under the conditions of `decompose`.
+// Rust: #[inline(always)]
 pub fn high_bits(gamma2: i32, r: Zq) -> Zq
     requires set { IsGamma2 gamma2 }
     requires range { nat_abs r < 2143289344 }
@@ -110,6 +113,7 @@ pub fn high_bits(gamma2: i32, r: Zq) -> Zq
 }
 
 /// `LowBits` (FIPS 204, Algorithm 38), under the conditions of `decompose`.
+// Rust: #[inline(always)]
 pub fn low_bits(gamma2: i32, r: Zq) -> Zq
     requires set { IsGamma2 gamma2 }
     requires range { nat_abs r < 2143289344 }
@@ -120,6 +124,7 @@ pub fn low_bits(gamma2: i32, r: Zq) -> Zq
 
 /// `MakeHint` (FIPS 204, Algorithm 39): whether the high bits of `r + z` differ from those of `r`,
 /// where `gamma2` is 95232 or 261888 and `z` and `r` are at most 1071644671 in absolute value.
+// Rust: #[inline(always)]
 pub fn make_hint(gamma2: i32, z: Zq, r: Zq) -> bool
     requires set { IsGamma2 gamma2 }
     requires z { nat_abs z ≤ 1071644671 }
@@ -132,6 +137,7 @@ pub fn make_hint(gamma2: i32, z: Zq, r: Zq) -> bool
 
 /// `UseHint` (FIPS 204, Algorithm 40): the high bits of `r`, which a hint moves by one, up if the low bits are
 /// above 0 and else down, and round at the ends. `h` is 0 or 1, and the conditions of `decompose` hold.
+// Rust: #[inline(always)]
 pub fn use_hint(gamma2: i32, h: Zq, r: Zq) -> Zq
     requires set { IsGamma2 gamma2 }
     requires hint { (h ≡ pos 0) ⊎ (h ≡ pos 1) }
@@ -154,6 +160,7 @@ pub fn use_hint(gamma2: i32, h: Zq, r: Zq) -> Zq
 }
 
 /// The number of values of high bits: `(q - 1) / (2 gamma2)`.
+// Rust: #[inline(always)]
 pub(crate) fn high_count(gamma2: u32) -> Zq
     requires { (gamma2 ≡ 95232) ⊎ (gamma2 ≡ 261888) }
     ensures { result ≡ pos (high_count gamma2) }

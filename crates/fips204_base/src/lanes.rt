@@ -111,31 +111,37 @@ impl Residue for Lanes {
 
     ghost sums = { λ count. count.sums };
 
+    // Rust: #[inline(always)]
     fn add(self, other: Lanes, meter: &mut Count) -> Lanes {
         meter.sums += 1;
         Lanes(self.0.strict_add(other.0))
     }
 
+    // Rust: #[inline(always)]
     fn sub(self, other: Lanes, meter: &mut Count) -> Lanes {
         meter.sums += 1;
         Lanes(self.0.strict_sub(other.0))
     }
 
+    // Rust: #[inline(always)]
     fn mul_zeta(self, m: usize, meter: &mut Count) -> Lanes {
         meter.products += 1;
         mont_products(self, zeta_words(m))
     }
 
+    // Rust: #[inline(always)]
     fn mul_neg_zeta(self, m: usize, meter: &mut Count) -> Lanes {
         meter.products += 1;
         mont_products(self, neg_zeta_words(m))
     }
 
+    // Rust: #[inline(always)]
     fn reduce(self) -> Lanes {
         let near = (self.0 + i32x8::splat(1 << 22)) >> i32x8::splat(23);
         Lanes(self.0 - near * i32x8::splat(Q))
     }
 
+    // Rust: #[inline(always)]
     fn finish(self) -> Lanes {
         // 8347681 * 2^32 is 16382 modulo q
         add_q_if_negative(mont_products(self, factor_words(16382)))
@@ -143,6 +149,7 @@ impl Residue for Lanes {
 }
 
 /// Each lane times a factor, which comes as its words, and the inverse of `2^32` modulo `q`, below `q` in absolute value.
+// Rust: #[inline(always)]
 fn mont_products(x: Lanes, words: i64) -> Lanes
     requires factor { nat_abs (int_wrap w32 words) ≤ 8380416 }
     requires quotient { HasQuotient words }
@@ -198,6 +205,7 @@ fn halves(x: i64x4) -> i32x8
 
 /// The words of a factor: the low one is the factor, and the high one gives its lowest 32 bits if it is multiplied by
 /// `q`; 58728449 is the inverse of `q` modulo `2^32`.
+// Rust: #[inline(always)]
 fn factor_words(factor: i32) -> i64
     ensures factor { int_wrap w32 result ≡ factor }
     ensures quotient { HasQuotient result }
@@ -208,6 +216,7 @@ fn factor_words(factor: i32) -> i64
 }
 
 /// Each lane modulo `q`, from 0 to `q - 1`, for lanes below `q` in absolute value.
+// Rust: #[inline(always)]
 fn add_q_if_negative(x: Lanes) -> Lanes
     requires { (j : ℕ) → j < 8 → nat_abs (lane x j) ≤ 8380416 }
     ensures { EachLane (λ x y. y ≡ pos (residue x)) 8 x result }

@@ -48,6 +48,7 @@ pub fn inv_ntt<V: Residue, const KL: usize>(
 }
 
 /// `write_ntt` in lanes, with a meter that nobody reads: as it is not written to, the compiler leaves it out.
+// Compiled for AVX2 too.
 #[inline(never)]
 pub(crate) fn write_lanes_ntt(w: &mut [Lanes; 256])
     requires { LanesWithin (λ x. x) 8 8380416 w.old }
@@ -59,6 +60,7 @@ pub(crate) fn write_lanes_ntt(w: &mut [Lanes; 256])
 }
 
 /// `write_inv_ntt` in lanes, as `write_lanes_ntt`.
+// Compiled for SSE4.2 and AVX2 too.
 #[inline(never)]
 pub(crate) fn write_lanes_inv_ntt(w: &mut [Lanes; 256])
     requires { LanesWithin (λ x. x) 8 8380416 w.old }
@@ -92,7 +94,7 @@ pub(crate) fn write_ntt<V: Residue>(w: &mut [V; 256], meter: &mut V::Meter)
 }
 
 /// The butterflies of a transform, or those of its inverse.
-trait Butterfly {
+trait Butterfly: Sized {
     // What one at a power of zeta makes of two values.
     ghost pair: { ℕ → ℤ → ℤ → ℤ → ℤ → Type 0 };
 
@@ -172,6 +174,7 @@ impl Butterfly for Backwards {
 
 /// One layer: `count` blocks of `2 * len` values. The layer whose blocks have one pair is compiled
 /// with its constants.
+// Rust: #[inline(always)]
 fn write_layer<V: Residue, B: Butterfly>(
     w: &mut [V; 256],
     count: usize,

@@ -45,6 +45,7 @@ impl Model for Transforms {
 
 impl Transforms {
     /// Eight polynomials of zeros.
+    // Rust: #[inline(never)]
     pub fn zeros() -> Transforms
         ensures { (r n : ℕ) → r < 8 → n < 256 → vector_coefficients result r n ≡ 0 }
     {
@@ -56,6 +57,7 @@ impl Transforms {
     /// Becomes `v` (Algorithm 41). Coefficients are below `q` in absolute value.
     ///
     /// Not inlined, so that its calls can be counted.
+    // Compiled for AVX2 too.
     #[inline(never)]
     pub fn write_transforms<const N: usize>(&mut self, v: &[R; N])
         requires few { N ≤ 8 }
@@ -70,6 +72,7 @@ impl Transforms {
 
     /// Becomes `v`, as by `write_transforms`, and returns `c` as what vectors are multiplied by. Both take one run of the
     /// network, with `c` in the last lane. Coefficients are below `q` in absolute value.
+    // Compiled for AVX2 too.
     #[inline(never)]
     pub fn write_transforms_and_factor<const N: usize>(&mut self, v: &[R; N], c: &R) -> Factor
         requires few { N ≤ 7 }
@@ -103,6 +106,7 @@ impl Transforms {
     }
 
     /// Takes `c v` away.
+    // Compiled for AVX2 too.
     pub fn subtract_multiple(&mut self, c: &Factor, v: &Transforms)
         ensures { (r n : ℕ) → r < 8 → n < 256 → vector_coefficients self.new r n
             ≡ minus (vector_coefficients self.old r) (product (coefficients c.now.0) (vector_coefficients v.now r)) n }
@@ -135,6 +139,7 @@ impl Model for Factor {
 
 impl Factor {
     /// `c`, whose coefficients are below `q` in absolute value.
+    // Compiled for SSE4.2 and AVX2 too.
     #[inline(never)]
     pub fn of(c: &R) -> Factor
         requires { PolynomialWithin 8380416 c.now.0 }
@@ -235,6 +240,7 @@ impl<'a> Products<'a> {
 }
 
 /// Writes `c v` (Algorithms 45 and 42 at each polynomial): lane `r` of value `n` is coefficient `n` of polynomial `r`.
+// Compiled for AVX2 too.
 fn write_multiple(c: &Factor, v: &Transforms, out: &mut [Lanes; 256])
     ensures { HasMultiple 8 (λ r. r) c.now v.now out.new }
 {
@@ -245,6 +251,7 @@ fn write_multiple(c: &Factor, v: &Transforms, out: &mut [Lanes; 256])
 }
 
 /// Writes `c v`, and from lane 4 on `c u`, in the first four polynomials of both.
+// Compiled for AVX2 too.
 fn write_multiples(c: &Factor, v: &Transforms, u: &Transforms, out: &mut [Lanes; 256])
     ensures first { HasMultiple 4 (λ r. r) c.now v.now out.new }
     ensures second { HasMultiple 4 (λ r. 4 + r) c.now u.now out.new }

@@ -17,7 +17,8 @@ pub use sha2_ctr::{
     Sha256Ctr, Sha256CtrLong, Sha256CtrReader, Sha512Ctr, Sha512CtrLong, Sha512CtrReader,
 };
 
-/// A reader of an XOF's output. Contracts see it as `rest`, the list of the bytes not yet read.
+/// A reader of an XOF's output.
+// Contracts see it as `rest`, the list of the bytes not yet read.
 pub trait XofReader: Drop {
     ghost rest: { Self → List ℕ };
 
@@ -69,7 +70,7 @@ pub trait XofReader: Drop {
 
 /// An XOF, in place of SHAKE256 or SHAKE128 (FIPS 204, section 3.7): the input determines an output of
 /// `FRONT` bytes. Rejection sampling reaches its limit at a quarter of them (`sampling_limit`).
-pub trait Xof {
+pub trait Xof: Sized {
     type Reader: XofReader;
 
     /// The number of bytes of an output, from 4096 to 1048576.

@@ -5,17 +5,17 @@
 #![tactic(auto)]
 
 pub mod callers;
-mod der;
-mod der_44;
-mod der_65;
-mod der_87;
-mod ml_dsa_44;
-mod ml_dsa_65;
-mod ml_dsa_87;
-mod pieces;
-mod pre_hash;
-mod prepared_44;
-mod prepared_65;
-mod prepared_87;
-mod statuses;
-mod texts;
+pub mod der;
+pub mod der_44;
+pub mod der_65;
+pub mod der_87;
+pub mod ml_dsa_44;
+pub mod ml_dsa_65;
+pub mod ml_dsa_87;
+pub mod pieces;
+pub mod pre_hash;
+pub mod prepared_44;
+pub mod prepared_65;
+pub mod prepared_87;
+pub mod statuses;
+pub mod texts;

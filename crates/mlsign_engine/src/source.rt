@@ -9,7 +9,7 @@ use std::io::Read;
 /// What gives a message piece by piece: a reader does, as a `Reader`.
 ///
 /// Its `gives` lets a contract name the calls that were made, and so tell a message that could not be read.
-pub trait Source {
+pub trait Source: Sized {
     // The bytes that it will give from here on, where they are known.
     ghost remaining: { Self → Option (List ℕ) };
 

@@ -35,6 +35,7 @@ fn block_lane(block: &[u8], index: usize) -> u64
 }
 
 /// Adds a block to the state.
+// Rust: #[inline(always)]
 pub(crate) fn add_block(state: &mut [u64; 25], block: &[u8])
     requires size { length block.now ≤ 200 }
     requires whole { length block.now % 8 ≡ 0 }
@@ -46,6 +47,7 @@ pub(crate) fn add_block(state: &mut [u64; 25], block: &[u8])
 }
 
 /// Writes the first bytes of the state.
+// Rust: #[inline(always)]
 pub(crate) fn write_block(state: &[u64; 25], block: &mut [u8])
     requires size { length block.old ≤ 200 }
     requires whole { length block.old % 8 ≡ 0 }

@@ -87,6 +87,7 @@ fn two_rounds(states: &mut [[u64; 4]; 25], first: u64, second: u64)
 
 /// The permutation Keccak-f[1600] of each state. The rounds are a loop: 24 of them one after the other are more instructions
 /// than the processor keeps at hand, and take longer.
+// Rust: #[inline(always)]
 fn f1600x4(states: &mut [[u64; 4]; 25])
     requires { AreFour states.old }
     ensures four { AreFour states.new }
@@ -102,6 +103,7 @@ fn f1600x4(states: &mut [[u64; 4]; 25])
 }
 
 /// The permutation Keccak-f[1600] of each of four states.
+// Compiled for AVX2 too.
 pub fn f1600_four(a: &mut [u64; 25], b: &mut [u64; 25], c: &mut [u64; 25], d: &mut [u64; 25])
     ensures first { a.new ≡ keccak_f a.old }
     ensures second { b.new ≡ keccak_f b.old }

@@ -130,6 +130,7 @@ pub(crate) fn round(a: &[u64; 25], constant: u64) -> [u64; 25]
 }
 
 /// The permutation Keccak-f[1600] of the 25 lanes of a state, lane (x, y) at place `x + 5 * y`.
+// Compiled for AVX2 too.
 pub fn f1600(state: &mut [u64; 25])
     ensures { state.new ≡ keccak_f state.old }
 {

@@ -44,6 +44,8 @@
 //! # }
 //! ```
 
+use core::marker::PhantomData;
+
 pub use crate::proved::fips204::traits::{
     CryptoRngCore, KeyGen, RngError, Scheme, SerDes, Signer, Verifier, pairwise_check,
 };
@@ -51,23 +53,45 @@ pub use crate::proved::fips204::{MAX_PREHASH_LEN, MAX_SIGN_ATTEMPTS, check_pre_h
 pub use crate::proved::fips204_base::xof::{Fill, FillReader, FrontReader};
 #[cfg(feature = "sha2")]
 pub use crate::proved::fips204_base::xof::{Sha256Ctr, Sha256CtrLong, Sha512Ctr, Sha512CtrLong};
-pub use crate::proved::fips204_shake::bytes::{
-    AnySet, Buffer, Fault, Input, MlDsa, MlDsa44, MlDsa65, MlDsa87, Refusal, SetName,
-};
+use crate::proved::fips204_shake::bytes;
+pub use crate::proved::fips204_shake::bytes::{Buffer, Fault, Input, Refusal, SetName};
 pub use crate::proved::fips204_shake::streams::{Shake128Stream, Shake256Stream};
 
 /// An XOF of yours: what the keys and the calls take in the places of SHAKE256 and SHAKE128.
 ///
 /// # What an implementation owes
 ///
-/// The compiler checks none of this, and what is proved of the keys stands on it. An implementation that fails it makes no memory
-/// unsafe, but calls may then panic, and keys and signatures be none.
+/// The compiler checks the range of `FRONT`: a program that uses a key or a call over an XOF outside it is not built. (`cargo check`
+/// does not find that.)
 ///
-/// - The input is the bytes of the parts, one after the other. The same input has the same output each time, however it is cut.
-/// - An output has `FRONT` bytes: at least 4096, at most 1048576, and as many for each input.
+/// ```compile_fail,E0080
+/// use fips204::xofs::{FillReader, Fill, Xof, ml_dsa_44::KG, KeyGen};
+///
+/// struct Short;
+///
+/// impl Xof for Short {
+///     type Reader = FillReader<0>;
+///     const FRONT: usize = 0; // error: `FRONT` of an XOF has to be from 4096 to 1048576
+///
+///     fn open(parts: &[&[u8]]) -> FillReader<0> {
+///         Fill::open(parts)
+///     }
+/// }
+///
+/// let pair = KG::<Short, Short>::keygen_from_seed(&[7; 32]);
+/// ```
+///
+/// The compiler does not check the rest, and the proofs about keys and calls depend on it. An implementation that breaks a rule makes
+/// no memory unsafe, but calls may then panic, and keys and signatures may be wrong.
+///
+/// - The input is the bytes of the parts, one after the other. The same input has the same output each time, however it is cut, in
+///   every process and on every machine.
+/// - An output has `FRONT` bytes, whatever the input.
 /// - The reader that `open` returns has read none of them.
+/// - `open` returns for every input, and does not panic.
 ///
-/// How hard it is to forge a signature is a matter of the XOFs; nothing is said of that here.
+/// Sampling gives up after `FRONT / 4` draws, with [`Fault::SamplingLimit`], so that every call ends, whatever the output is. How hard
+/// it is to forge a signature depends on the XOFs; nothing is said of that here.
 ///
 /// # In the proved source
 pub use crate::proved::fips204_base::xof::Xof;
@@ -78,35 +102,140 @@ pub use crate::proved::fips204_base::xof::Xof;
 ///
 /// - `read` fills its slice with the next bytes of the output, in their order, and has then read these. How the output is cut into
 ///   calls makes no difference.
-/// - `left` is how many bytes of the output are not read yet.
+/// - `left` is the number of bytes of the output that are not read yet.
 /// - `read_four`, if an implementation has it, does what four calls of `read` do.
+/// - Each call returns, and does not panic.
 ///
-/// `read` may count on a slice that is no longer than what is `left`, and `read_four` on slices of one length, of which the fourth
-/// may also be empty: so the library calls them, and so do you.
+/// `read` may rely on a slice that is no longer than `left`, and `read_four` on slices of one length, of which the fourth may also be
+/// empty: so the library calls them, and so must you.
 ///
 /// # In the proved source
 pub use crate::proved::fips204_base::xof::XofReader;
 
-/// ML-DSA-44.
-pub mod ml_dsa_44 {
-    pub use crate::proved::fips204::ml_dsa_44::{
-        KG, PK_LEN, PREPARED_PK_LEN, PREPARED_SK_LEN, PreparedPrivateKey, PreparedPublicKey,
-        PrivateKey, PublicKey, SIG_LEN, SK_LEN, try_keygen_with_rng,
+/// An XOF, with `FRONT` checked when the program is compiled. The types of keys and calls here put each XOF into it; you need not name
+/// it.
+pub struct Checked<X>(PhantomData<X>);
+
+impl<X> core::fmt::Debug for Checked<X> {
+    fn fmt(&self, f: &mut core::fmt::Formatter<'_>) -> core::fmt::Result {
+        f.write_str("Checked")
+    }
+}
+
+impl<X: Xof> Xof for Checked<X> {
+    type Reader = X::Reader;
+
+    const FRONT: usize = {
+        assert!(
+            4096 <= X::FRONT && X::FRONT <= 1_048_576,
+            "`FRONT` of an XOF has to be from 4096 to 1048576"
+        );
+        X::FRONT
+    };
+
+    fn open(parts: &[&[u8]]) -> X::Reader {
+        const { Self::FRONT };
+        X::open(parts)
+    }
+}
+
+/// The calls of a parameter set with keys and signatures as slices: of the one whose matrix has `K` rows and `L` columns. Each returns
+/// a `Result`, whose error is a [`Refusal`]; a slice that it writes is as it was after every error.
+///
+/// | call | arguments | it returns |
+/// |---|---|---|
+/// | `keygen` | `&seed, &mut public_key, &mut private_key` | `()` |
+/// | `sign` | `&private_key, &random, &input, &mut signature` | `()` |
+/// | `verify` | `&public_key, &input, &signature` | `bool` |
+/// | `public_key` | `&private_key, &mut public_key` | `()` |
+/// | `check_private_key` | `&private_key` | `()` |
+/// | `is_whole`, `is_pair` | `&private_key` | `bool` |
+/// | `prepare_public_key` | `&public_key, &mut prepared` | `()` |
+/// | `verify_prepared` | `&prepared, &input, &signature` | `bool` |
+/// | `prepare_private_key` | `&private_key, &mut prepared` | `()` |
+/// | `sign_prepared` | `&prepared, &random, &input, &mut signature` | `()` |
+pub type MlDsa<const K: usize, const L: usize, H, G> = bytes::MlDsa<K, L, Checked<H>, Checked<G>>;
+
+/// The calls of ML-DSA-44 with keys and signatures as slices.
+pub type MlDsa44<H, G> = MlDsa<4, 4, H, G>;
+
+/// The calls of ML-DSA-65 with keys and signatures as slices.
+pub type MlDsa65<H, G> = MlDsa<6, 5, H, G>;
+
+/// The calls of ML-DSA-87 with keys and signatures as slices.
+pub type MlDsa87<H, G> = MlDsa<8, 7, H, G>;
+
+/// The calls of [`MlDsa`] for a set that is known when the program runs: each takes a [`SetName`] before the other arguments.
+///
+/// ```
+/// use fips204::xofs::{AnySet, Input, SetName, Shake128Stream, Shake256Stream};
+///
+/// type Calls = AnySet<Shake256Stream, Shake128Stream>;
+///
+/// let set = SetName::MlDsa65;
+/// let mut public = vec![0; set.public_key_len()];
+/// let mut private = vec![0; set.private_key_len()];
+/// let mut signature = vec![0; set.signature_len()];
+/// let input = Input::Message(b"a message", b"a context");
+/// Calls::keygen(set, &[7; 32], &mut public, &mut private)?; // a seed is secret, and random
+/// Calls::sign(set, &private, &[0; 32], &input, &mut signature)?;
+/// assert!(Calls::verify(set, &public, &input, &signature)?);
+/// # Ok::<(), fips204::xofs::Refusal>(())
+/// ```
+pub type AnySet<H, G> = bytes::AnySet<Checked<H>, Checked<G>>;
+
+/// The module of a parameter set.
+macro_rules! keys_of_set {
+    ($set:ident, $name:literal) => {
+        #[doc = concat!($name, ".")]
+        pub mod $set {
+            use super::{Checked, CryptoRngCore, Fault, KeyGen, Xof};
+            use crate::proved::fips204::$set as proved;
+            pub use crate::proved::fips204::$set::{
+                PK_LEN, PREPARED_PK_LEN, PREPARED_SK_LEN, SIG_LEN, SK_LEN,
+            };
+
+            /// Key generation.
+            pub type KG<H, G> = proved::KG<Checked<H>, Checked<G>>;
+
+            /// A public key.
+            pub type PublicKey<H, G> = proved::PublicKey<Checked<H>, Checked<G>>;
+
+            /// A private key.
+            pub type PrivateKey<H, G> = proved::PrivateKey<Checked<H>, Checked<G>>;
+
+            /// A public key with its matrix, for many verifications.
+            pub type PreparedPublicKey<H> = proved::PreparedPublicKey<Checked<H>>;
+
+            /// A private key with its matrix, for many signatures.
+            pub type PreparedPrivateKey<H> = proved::PreparedPrivateKey<Checked<H>>;
+
+            /// Makes a key pair from 32 bytes of a generator, which is asked once. It takes the bytes of stack that
+            /// `stack::KEYGEN` of the set over SHAKE names, and what your XOFs take.
+            ///
+            /// # Errors
+            /// The generator failed, or rejection sampling reached its limit.
+            ///
+            /// ```
+            #[doc = concat!("use fips204::xofs::", stringify!($set), "::try_keygen_with_rng;")]
+            /// use fips204::xofs::{CryptoRngCore, Fault, Shake128Stream, Shake256Stream};
+            ///
+            /// # fn example(your_generator: &mut impl CryptoRngCore) -> Result<(), Fault> {
+            /// let (public, private) =
+            ///     try_keygen_with_rng::<Shake256Stream, Shake128Stream, _>(your_generator)?;
+            /// # let _ = (public, private);
+            /// # Ok(())
+            /// # }
+            /// ```
+            pub fn try_keygen_with_rng<H: Xof, G: Xof, R: CryptoRngCore>(
+                rng: &mut R,
+            ) -> Result<(PublicKey<H, G>, PrivateKey<H, G>), Fault> {
+                KG::<H, G>::try_keygen_with_rng(rng)
+            }
+        }
     };
 }
 
-/// ML-DSA-65.
-pub mod ml_dsa_65 {
-    pub use crate::proved::fips204::ml_dsa_65::{
-        KG, PK_LEN, PREPARED_PK_LEN, PREPARED_SK_LEN, PreparedPrivateKey, PreparedPublicKey,
-        PrivateKey, PublicKey, SIG_LEN, SK_LEN, try_keygen_with_rng,
-    };
-}
-
-/// ML-DSA-87.
-pub mod ml_dsa_87 {
-    pub use crate::proved::fips204::ml_dsa_87::{
-        KG, PK_LEN, PREPARED_PK_LEN, PREPARED_SK_LEN, PreparedPrivateKey, PreparedPublicKey,
-        PrivateKey, PublicKey, SIG_LEN, SK_LEN, try_keygen_with_rng,
-    };
-}
+keys_of_set!(ml_dsa_44, "ML-DSA-44");
+keys_of_set!(ml_dsa_65, "ML-DSA-65");
+keys_of_set!(ml_dsa_87, "ML-DSA-87");

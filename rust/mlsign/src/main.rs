@@ -5,6 +5,7 @@
 #![forbid(unsafe_code)]
 
 mod clap;
+#[rustfmt::skip] // laid out as its source is
 mod proved;
 
 /// What each file of `proved` sees, in the place of Rattle's std and of the crates that it names.

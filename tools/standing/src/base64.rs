@@ -1,8 +1,10 @@
-//! For the crate `base64`: that of crates.io, with memory that may be refused, and the error for it.
+//! For the crate `base64`: the crate `data-encoding`, of which each Debian has version 2, with memory that may be refused and
+//! the error for it.
 
 use crate::alloc::{AllocError, Global};
 use crate::string::String;
 use crate::vec::Vec;
+use data_encoding::{BASE64, BASE64_NOPAD, Encoding};
 
 #[derive(Clone, Copy, Debug, PartialEq, Eq)]
 pub enum DecodeAllocError {
@@ -31,32 +33,28 @@ pub mod engine {
 }
 
 impl Standard {
-    fn config(&self) -> base64::Config {
-        if self.padded {
-            base64::STANDARD
-        } else {
-            base64::STANDARD_NO_PAD
-        }
+    fn encoding(&self) -> Encoding {
+        if self.padded { BASE64 } else { BASE64_NOPAD }
     }
 
     pub fn encode(&self, alloc: Global, bytes: &[u8]) -> Result<String, AllocError> {
-        let size = bytes.len().div_ceil(3).checked_mul(4).ok_or(AllocError)?;
-        let mut room = Vec::filled(alloc, 0, size)?;
-        let length = base64::encode_config_slice(bytes, self.config(), &mut room);
-        String::from_utf8_lossy(alloc, &room[..length])
+        let encoding = self.encoding();
+        let mut room = Vec::filled(alloc, 0, encoding.encode_len(bytes.len()))?;
+        encoding.encode_mut(bytes, &mut room);
+        String::from_utf8_lossy(alloc, &room)
     }
 
-    /// The bytes of a text, which has to be as `encode` gives it. (The crate takes one with other padding too.)
+    /// The bytes of a text, which has to be as `encode` gives it. (The crate reads several padded texts in a row as one.)
     pub fn decode(&self, alloc: Global, text: &[u8]) -> Result<Vec<u8>, DecodeAllocError> {
-        let mut room = Vec::filled(alloc, 0, text.len().div_ceil(4).saturating_mul(3))?;
-        let right = match self.padded {
-            true => text.len().is_multiple_of(4),
-            false => !text.ends_with(b"="),
-        };
-        match base64::decode_config_slice(text, self.config(), &mut room) {
-            Ok(length) if right => Ok(Vec::from_slice(alloc, &room[..length])?),
-            _ => Err(DecodeAllocError::DecodeError(())),
+        const WRONG: DecodeAllocError = DecodeAllocError::DecodeError(());
+        let encoding = self.encoding();
+        let size = encoding.decode_len(text.len()).map_err(|_| WRONG)?;
+        let mut room = Vec::filled(alloc, 0, size)?;
+        let length = encoding.decode_mut(text, &mut room).map_err(|_| WRONG)?;
+        if text.iter().rev().skip(2).any(|symbol| *symbol == b'=') {
+            return Err(WRONG);
         }
+        Ok(Vec::from_slice(alloc, &room[..length])?)
     }
 
     /// The same into a place, and how many bytes they are.

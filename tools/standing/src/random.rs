@@ -1,6 +1,7 @@
 //! For `std::random`: a source of random bytes, which the system is.
 
 use crate::rt::HostRuntime;
+use rand_core::{OsRng, RngCore};
 use std::io;
 
 pub trait RandomSource {
@@ -9,10 +10,12 @@ pub trait RandomSource {
 
 impl RandomSource for HostRuntime {
     fn fill_bytes(&self, buf: &mut [u8]) -> io::Result<()> {
-        getrandom::getrandom(buf).map_err(|error| match error.raw_os_error() {
-            Some(number) => io::Error::from_raw_os_error(number),
-            None => io::Error::other(error.to_string()),
-        })
+        OsRng
+            .try_fill_bytes(buf)
+            .map_err(|error| match error.raw_os_error() {
+                Some(number) => io::Error::from_raw_os_error(number),
+                None => io::Error::other(error.to_string()),
+            })
     }
 }
 

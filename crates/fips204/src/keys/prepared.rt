@@ -49,8 +49,7 @@ impl KeyTransforms {
 
 /// A private key of a parameter set with a matrix of `K` rows and `L` columns, over the XOF `H`, with its matrix and
 /// the transforms of its vectors.
-///
-/// Contracts see it as the private key's parts and the matrix, whose entries are the transforms of the plain matrix.
+// Contracts see it as the private key's parts and the matrix, whose entries are the transforms of the plain matrix.
 #[derive(Drop)]
 pub struct PreparedPrivateKey<const K: usize, const L: usize, H> {
     pub(crate) key: PrivateKey<K, L, H, ()>,
@@ -76,8 +75,7 @@ impl<const K: usize, const L: usize, H> Model for PreparedPrivateKey<K, L, H> {
 
 /// A public key of a parameter set with a matrix of `K` rows and `L` columns, over the XOF `H`, with its matrix and the
 /// transforms of `t1 2^d`.
-///
-/// Contracts see it as the public key's parts and the matrix, whose entries are the transforms of the plain matrix.
+// Contracts see it as the public key's parts and the matrix, whose entries are the transforms of the plain matrix.
 #[derive(Drop)]
 pub struct PreparedPublicKey<const K: usize, const L: usize, H> {
     // The plain key's parts, one by one: an entire key would first be put together in the stack beside this one.

@@ -27,9 +27,10 @@ use std::marker::{Model, PhantomData};
 
 /// A private key of a parameter set with a matrix of `K` rows and `L` columns, over the XOFs `H` and `G`.
 ///
-/// Contracts see it as its parts: the matrix's seed `rho`, the seed `key` of the masks, the hash `tr` of
-/// the public key's bytes, the vectors `s1` of `L` and `s2` of `K` polynomials with coefficients in
-/// `[-eta, eta]`, and `t0`, `K` polynomials with coefficients in `[-4095, 4096]`.
+/// Its parts are the matrix's seed `rho`, the seed `cap_k` of the masks, the hash `tr` of the public key's bytes, the vectors
+/// `s1` of `L` and `s2` of `K` polynomials with coefficients in `[-eta, eta]`, and `t0`, `K` polynomials with coefficients
+/// in `[-4095, 4096]`.
+// Contracts see it as these parts.
 #[derive(Drop)]
 pub struct PrivateKey<const K: usize, const L: usize, H, G> {
     pub(crate) rho: [u8; 32],

@@ -23,8 +23,9 @@ use std::marker::{Model, PhantomData};
 
 /// A public key of a parameter set with a matrix of `K` rows and `L` columns, over the XOFs `H` and `G`.
 ///
-/// Contracts see it as its parts: the matrix's seed `rho`, the hash `tr` of its bytes, and `t1`, `K`
-/// polynomials with coefficients from 0 to 1023.
+/// Its parts are the matrix's seed `rho`, the hash `tr` of its bytes, and `t1`, `K` polynomials with coefficients from 0 to
+/// 1023.
+// Contracts see it as these parts.
 #[derive(Drop)]
 pub struct PublicKey<const K: usize, const L: usize, H, G> {
     pub(crate) rho: [u8; 32],

@@ -15,7 +15,7 @@ use crate::traits::{CryptoRngCore, DummyRng, draw};
 use fips204_base::Fault;
 
 /// A private key, plain or prepared, that signs an input with given random bytes.
-pub(crate) trait SignsInput {
+pub(crate) trait SignsInput: Sized {
     /// The byte array of a signature.
     type Signature;
 

@@ -239,6 +239,7 @@ fn write_key_vector<const K: usize, const L: usize, G: Xof>(
 }
 
 /// Adds `v` to `t`, with results from 0 to `q - 1`. Coefficients of both are below `q` in absolute value.
+// Compiled for AVX2 too.
 fn write_sum<const K: usize>(t: &mut [R; K], v: &[R; K])
     requires first { VectorWithin K 8380416 t.old }
     requires second { VectorWithin K 8380416 v.now }

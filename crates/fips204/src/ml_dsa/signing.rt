@@ -264,6 +264,7 @@ impl<'a, const K: usize, const L: usize, H, G> SigningKey<'a, K, L, H, G> {
 
 /// Writes `HighBits` of each coefficient of `w`. `gamma2` is 95232 or 261888, and coefficients are below `q` in
 /// absolute value.
+// Compiled for AVX2 too.
 fn write_high_vector<const K: usize>(gamma2: i32, w: &[R; K], out: &mut [R; K])
     requires set { IsGamma2 gamma2 }
     requires range { VectorWithin K 8380416 w.now }
@@ -290,6 +291,7 @@ pub(crate) fn has_norm_below<const N: usize>(v: &[R; N], bound: u32) -> bool
 }
 
 /// Adds `y` to `z`, centred. Coefficients of `y` are at most 524288, and those of `z` below `q`, in absolute value.
+// Compiled for AVX2 too.
 fn write_centred_sum<const L: usize>(z: &mut [R; L], y: &[R; L])
     requires mask { VectorWithin L 524288 y.now }
     requires product { VectorWithin L 8380416 z.old }
@@ -309,6 +311,7 @@ fn write_centred_sum<const L: usize>(z: &mut [R; L], y: &[R; L])
 }
 
 /// Takes `v` from `w`, which stays below `q` in absolute value, as coefficients of both are.
+// Compiled for AVX2 too.
 fn write_difference<const K: usize>(w: &mut [R; K], v: &[R; K])
     requires w { VectorWithin K 8380416 w.old }
     requires product { VectorWithin K 8380416 v.now }
@@ -328,6 +331,7 @@ fn write_difference<const K: usize>(w: &mut [R; K], v: &[R; K])
 }
 
 /// Writes `LowBits` of each coefficient of `v`, which are below `q` in absolute value.
+// Compiled for AVX2 too.
 fn write_low_vector<const K: usize>(gamma2: i32, v: &[R; K], out: &mut [R; K])
     requires set { IsGamma2 gamma2 }
     requires range { VectorWithin K 8380416 v.now }
@@ -347,6 +351,7 @@ fn write_low_vector<const K: usize>(gamma2: i32, v: &[R; K], out: &mut [R; K])
 
 /// Writes the hint of `v = w - c s2` and `t = c t0` over `t`: `MakeHint` of `-t` and `v + t` at each coefficient.
 /// `gamma2` is 95232 or 261888, and coefficients are below `q` in absolute value.
+// Compiled for AVX2 too.
 fn write_hint<const K: usize>(gamma2: i32, v: &[R; K], t: &mut [R; K])
     requires set { IsGamma2 gamma2 }
     requires v { VectorWithin K 8380416 v.now }

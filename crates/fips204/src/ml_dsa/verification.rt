@@ -207,6 +207,7 @@ fn open_signature<'a, const K: usize, const L: usize, H: Xof>(
 /// Writes `w1' = UseHint(h, w)` (line 10) over `w`.
 ///
 /// Coefficients of `w` are below `q` in absolute value, those of `h` 0 or 1. `K` is that of the parameter set.
+// Compiled for AVX2 too.
 fn write_hinted<const K: usize>(p: &Params, h: &[R; K], w: &mut [R; K])
     requires rows { K ≡ p.now.k }
     requires range { VectorWithin K 8380416 w.old }

@@ -47,6 +47,7 @@ fn write_four_numbers(bytes: &[u8], first: usize, values: &mut [i32; 256])
 }
 
 /// Writes the numbers of 256 triples, without the top bit of each.
+// Rust: #[inline(always)]
 fn write_numbers(triples: &[u8], values: &mut [i32; 256])
     requires { length triples.now ≡ 768 }
     ensures { (p : ℕ) (d : ℤ) → p < 256 → slice_index_or values.new p d ≡ pos (number triples.now p) }
@@ -60,6 +61,7 @@ fn write_numbers(triples: &[u8], values: &mut [i32; 256])
 }
 
 /// Whether all are below `q`.
+// Rust: #[inline(always)]
 fn are_below_q(values: &[i32; 256]) -> bool
     ensures { result ≡ true → (p : ℕ) (d : ℤ) → p < 256 → slice_index_or values.now p d <ℤ pos 8380417 }
 {
@@ -72,6 +74,7 @@ fn are_below_q(values: &[i32; 256]) -> bool
 
 /// Puts the coefficients that 256 triples give into `values`, and returns how many there are. Nearly all triples are
 /// accepted, so it decodes 256 at once, and compacts only if one is too large.
+// Compiled for SSE4.2 and AVX2 too.
 fn write_first_triples(triples: &[u8], values: &mut [i32; 256]) -> usize
     requires { length triples.now ≡ 768 }
     ensures count { result ≤ 256 }

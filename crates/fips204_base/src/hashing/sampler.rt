@@ -8,7 +8,7 @@ use crate::fault::Fault;
 use crate::xof::{Xof, XofReader, sampling_limit};
 
 /// The sampler of one vector or matrix: each of its values has a number, and is made of the output of its own seed.
-pub(crate) trait Sampler<X: Xof> {
+pub(crate) trait Sampler<X: Xof>: Sized {
     type Value;
 
     ghost is_sampler: { Self → Type 0 };
@@ -118,7 +118,7 @@ pub(crate) trait Sampler<X: Xof> {
 }
 
 /// Rejection sampling of 256 coefficients: each draw takes `bytes` bytes of an output; what it gives is kept or not.
-pub(crate) trait Draws {
+pub(crate) trait Draws: Sized {
     ghost is_kind: { Self → Type 0 };
 
     ghost bytes: { Self → ℕ };

@@ -17,6 +17,7 @@ use crate::xof::{Xof, XofReader};
 
 /// Puts the coefficients that the half bytes of `piece` give into `values` from place `kept` on, as many as
 /// have room, and returns how many there are then.
+// Compiled for AVX2 too.
 fn write_kept_half_bytes(eta: i32, piece: &[u8], values: &mut [i32; 256], kept: usize) -> usize
     requires eta { IsEta eta }
     requires room { kept ≤ 256 }

@@ -10,6 +10,7 @@ use crate::types::R;
 
 /// The norm of a vector of at least one polynomial: the largest absolute value of a coefficient that
 /// is centred modulo `q`. Coefficients are below `2^31 - 2^22` in absolute value.
+// Compiled for AVX2 too.
 pub fn infinity_norm<const ROW: usize>(w: &[R; ROW]) -> i32
     requires rows { 1 ≤ ROW }
     requires range { VectorWithin ROW 2143289343 w.now }
@@ -23,6 +24,7 @@ pub fn infinity_norm<const ROW: usize>(w: &[R; ROW]) -> i32
 }
 
 /// The norm of a polynomial.
+// Rust: #[inline(always)]
 fn norm(w: &R) -> i32
     requires { (n : ℕ) → n < 256 → nat_abs (coefficient_at w.now.0 n) ≤ 2143289343 }
     ensures { result ≡ pos (norm w.now.0) }

@@ -10,6 +10,7 @@ use crate::Q;
 
 /// `MontgomeryReduce` (FIPS 204, Algorithm 49): `a` times the inverse of `2^32` modulo `q`, strictly
 /// between `-q` and `q`, for `a` from `-2^31 q` to `(2^31 - 1) q`.
+// Rust: #[inline(always)]
 pub fn mont_reduce(a: i64) -> i32
     requires low { (pos 0 -ℤ pos 17996808470921216) ≤ℤ a }
     requires high { a ≤ℤ pos 17996808462540799 }
@@ -23,6 +24,7 @@ pub fn mont_reduce(a: i64) -> i32
 
 /// The signed word whose product with `q` has the lowest 32 bits of `a`; 58728449 is the inverse of `q` modulo
 /// `2^32`.
+// Rust: #[inline(always)]
 fn signed_factor(a: i64) -> i32
     ensures { int_rem_euclid (result *ℤ pos 8380417) (pos 4294967296) ≡ int_rem_euclid a (pos 4294967296) }
 {
@@ -31,6 +33,7 @@ fn signed_factor(a: i64) -> i32
 }
 
 /// The quotient of a multiple of `2^32`.
+// Rust: #[inline(always)]
 fn high_word(a: i64) -> i32
     requires whole { int_rem_euclid a (pos 4294967296) ≡ pos 0 }
     ensures { a ≡ pos 4294967296 *ℤ result }
@@ -39,6 +42,7 @@ fn high_word(a: i64) -> i32
 }
 
 /// The product, which always fits.
+// Rust: #[inline(always)]
 pub(crate) fn wide_product(x: i32, y: i32) -> i64
     ensures { result ≡ x *ℤ y }
 {
@@ -47,6 +51,7 @@ pub(crate) fn wide_product(x: i32, y: i32) -> i64
 
 /// A number congruent to `a` and below `q` in absolute value, for `a` of an absolute value of at
 /// most `67000000 * 2^32`.
+// Rust: #[inline(always)]
 pub fn partial_reduce64(a: i64) -> i32
     requires { nat_abs a ≤ 287762808832000000 }
     ensures congruent { residue result ≡ residue a }
@@ -56,6 +61,7 @@ pub fn partial_reduce64(a: i64) -> i32
 }
 
 /// `partial_reduce64` of a sum of at most seven products of numbers below `q`.
+// Rust: #[inline(always)]
 pub(crate) fn reduce_sum(a: i64) -> i32
     requires { nat_abs a ≤ 491619606331392 }
     ensures congruent { residue result ≡ residue a }
@@ -65,6 +71,7 @@ pub(crate) fn reduce_sum(a: i64) -> i32
 }
 
 /// A number congruent to `a` and smaller about a thousand times; `2^23` is 8191 modulo `q`.
+// Rust: #[inline(always)]
 fn folded(a: i64) -> i64
     requires { nat_abs a ≤ 287762808832000000 }
     ensures congruent { residue result ≡ residue a }
@@ -74,6 +81,7 @@ fn folded(a: i64) -> i64
 }
 
 /// `folded` of such a sum: the product is one of numbers of 32 bits, which is one instruction.
+// Rust: #[inline(always)]
 fn folded_sum(a: i64) -> i64
     requires { nat_abs a ≤ 491619606331392 }
     ensures congruent { residue result ≡ residue a }
@@ -83,6 +91,7 @@ fn folded_sum(a: i64) -> i64
 }
 
 /// A number congruent to `a` and below `q` in absolute value, for `a` below `2^31 - 2^22` in absolute value.
+// Rust: #[inline(always)]
 pub fn partial_reduce32(a: i32) -> i32
     requires { nat_abs a < 2143289344 }
     ensures congruent { residue result ≡ residue a }
@@ -93,6 +102,7 @@ pub fn partial_reduce32(a: i32) -> i32
 
 /// The difference modulo `q` of two numbers below `q` in absolute value, and again below `q` in absolute
 /// value. Internal: serves the crate `fips204` alone.
+// Rust: #[inline(always)]
 pub fn difference(x: i32, y: i32) -> i32
     requires x { nat_abs x ≤ 8380416 }
     requires y { nat_abs y ≤ 8380416 }
@@ -103,6 +113,7 @@ pub fn difference(x: i32, y: i32) -> i32
 }
 
 /// `a` modulo `q`, from 0 to `q - 1`, for `a` below `2^31 - 2^22` in absolute value.
+// Rust: #[inline(always)]
 pub fn full_reduce32(a: i32) -> i32
     requires { nat_abs a < 2143289344 }
     ensures { result ≡ pos (residue a) }
@@ -113,6 +124,7 @@ pub fn full_reduce32(a: i32) -> i32
 
 /// `m` modulo `q`, from `-(q - 1) / 2` to `(q - 1) / 2`, for `m` below `2^31 - 2^22` in absolute value.
 #[tactic(auto, using(crate::proofs::Reductions::centred_is))]
+// Rust: #[inline(always)]
 pub fn center_mod(m: i32) -> i32
     requires { nat_abs m < 2143289344 }
     ensures value { result ≡ centred m }

@@ -88,30 +88,36 @@ impl Residue for i32 {
 
     ghost sums = { λ count. count.sums };
 
+    // Rust: #[inline(always)]
     fn add(self, other: i32, meter: &mut Count) -> i32 {
         meter.sums += 1;
         self + other
     }
 
+    // Rust: #[inline(always)]
     fn sub(self, other: i32, meter: &mut Count) -> i32 {
         meter.sums += 1;
         self - other
     }
 
+    // Rust: #[inline(always)]
     fn mul_zeta(self, m: usize, meter: &mut Count) -> i32 {
         meter.products += 1;
         mont_product(self, zeta_mont(m))
     }
 
+    // Rust: #[inline(always)]
     fn mul_neg_zeta(self, m: usize, meter: &mut Count) -> i32 {
         meter.products += 1;
         mont_product(self, -zeta_mont(m))
     }
 
+    // Rust: #[inline(always)]
     fn reduce(self) -> i32 {
         partial_reduce32(self)
     }
 
+    // Rust: #[inline(always)]
     fn finish(self) -> i32 {
         // 8347681 * 2^32 is 16382 modulo q
         let near = mont_product(self, 16382);
@@ -120,6 +126,7 @@ impl Residue for i32 {
 }
 
 /// The product times the inverse of `2^32` modulo `q`, below `q` in absolute value.
+// Rust: #[inline(always)]
 fn mont_product(x: i32, factor: i32) -> i32
     requires { nat_abs factor ≤ 8380416 }
     ensures congruent { IsCongruent (4294967296 * residue result) (residue x * residue factor) }

@@ -44,6 +44,7 @@ pub fn to_mont<const L: usize>(v: &[T; L]) -> [T; L]
 }
 
 /// The Montgomery form of a value.
+// Rust: #[inline(always)]
 pub(crate) fn value_to_mont(x: i32) -> i32
     requires { nat_abs x ≤ 67000000 }
     ensures value { residue result ≡ 4294967296 * residue x % 8380417 }
@@ -72,6 +73,7 @@ pub fn mat_vec_mul<const K: usize, const L: usize>(a: &[[T; L]; K], u: &[T; L]) 
 /// Writes the sums of the products of a row of the matrix with the vector, value by value.
 ///
 /// Not inlined, so that the compiler still knows that `out` is apart from both.
+// Compiled for SSE4.2 and AVX2 too.
 #[inline(never)]
 pub(crate) fn write_row_sums<const L: usize>(row: &[T; L], u: &[T; L], out: &mut [i32; 256])
     requires columns { L ≤ 7 }

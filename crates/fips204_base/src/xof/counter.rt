@@ -10,7 +10,7 @@ use sha2::Digest;
 use std::marker::{Model, PhantomData};
 
 /// A hash function with digests of `N` bytes, for an XOF in counter mode.
-pub trait BlockHash<const N: usize> {
+pub trait BlockHash<const N: usize>: Sized {
     ghost hash: { List ℕ → List ℕ };
 
     /// The digest of the concatenated parts; how the input is cut makes no difference.

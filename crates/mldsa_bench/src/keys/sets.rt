@@ -23,7 +23,7 @@ use std::process::Abort;
 use std::test::Fail;
 
 /// A public key and a private key, plain or prepared.
-pub trait Keys<S> {
+pub trait Keys<S>: Sized {
     /// Signs with these random bytes, M' and mu by `sign_input`.
     fn seeded(&self, seed: &[u8; 32], input: &Input) -> Result<S, Fault>;
 
@@ -193,7 +193,7 @@ impl<H: Xof, G: Xof> Row<Plain<8, 7, H, G>, 4896> for MlDsa87 {
 pub type Constant44 = ml_dsa_44::KG<Fill<0x55>, Fill<0>>;
 
 /// A parameter set over two XOFs.
-pub trait TestSet {
+pub trait TestSet: Sized {
     /// The bytes of a signature.
     type Signature: Copy + PartialEq + Drop;
 
@@ -336,7 +336,7 @@ where
 }
 
 /// What is tried at a set.
-pub trait Suite {
+pub trait Suite: Sized {
     /// What it finds.
     type Answer: Copy + PartialEq + Debug;
 

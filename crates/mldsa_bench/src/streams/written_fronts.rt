@@ -9,7 +9,7 @@ use fips204::xof::{Xof, XofReader};
 use std::marker::PhantomData;
 
 /// A byte for each place of an output.
-pub trait Pattern {
+pub trait Pattern: Sized {
     ghost byte: { ℕ → ℕ };
 
     /// The byte at a place.

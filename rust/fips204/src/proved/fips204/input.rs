@@ -1,7 +1,8 @@
 // Made by tools/erase of crates/fips204/src/input.rt. Change that, not this.
 //! What is signed: the argument of `sign_input` and `accepts_input`.
 
-/// What is signed. Contracts see it as the `Input` of the definitions.
+/// The input that is signed.
+// Contracts see it as the `Input` of the definitions.
 #[derive(Debug, Clone, Copy)]
 pub enum Input<'a> {
     /// A message, and its context (FIPS 204, Algorithms 2 and 3).

@@ -71,6 +71,8 @@ impl Set for MlDsa44 {
     }
 }
 
-impl SignatureSizes<K, L, SIG_LEN> for MlDsa44 {}
+impl SignatureSizes<K, L, SIG_LEN> for MlDsa44 {
+}
 
-impl KeySizes<K, L, PK_LEN, SK_LEN> for MlDsa44 {}
+impl KeySizes<K, L, PK_LEN, SK_LEN> for MlDsa44 {
+}

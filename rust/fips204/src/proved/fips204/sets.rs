@@ -5,7 +5,8 @@
 use crate::proved::fips204::types::Params;
 use crate::proved::fips204::{ml_dsa_44, ml_dsa_65, ml_dsa_87};
 
-/// A parameter set by its name. Contracts see it as its row of the tables.
+/// A parameter set by its name.
+// Contracts see it as its row of the tables.
 #[derive(Debug, Clone, Copy, PartialEq, Eq)]
 pub enum SetName {
     /// ML-DSA-44.
@@ -79,13 +80,12 @@ pub trait Set: Sized {
 }
 
 /// The sizes of a parameter set's signatures: a matrix of `K` rows and `L` columns, and `SIG_LEN` bytes.
-pub trait SignatureSizes<const K: usize, const L: usize, const SIG_LEN: usize>: Set {}
+pub trait SignatureSizes<const K: usize, const L: usize, const SIG_LEN: usize>: Set {
+}
 
 /// The sizes of a parameter set's keys: a matrix of `K` rows and `L` columns, `PK_LEN` bytes of a public key, and
 /// `SK_LEN` bytes of a private one.
-pub trait KeySizes<const K: usize, const L: usize, const PK_LEN: usize, const SK_LEN: usize>:
-    Set
-{
+pub trait KeySizes<const K: usize, const L: usize, const PK_LEN: usize, const SK_LEN: usize>: Set {
 }
 
 /// A matrix of `K` rows and `L` columns, which determines the parameter set of a key type.

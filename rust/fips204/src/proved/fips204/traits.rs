@@ -8,8 +8,8 @@ use crate::proved::fips204_base::Fault;
 #[derive(Debug, Clone, Copy, PartialEq, Eq)]
 pub struct RngError;
 
-/// A generator of random bytes. An implementation states which bytes a call may return, when it may fail, and
-/// what state the generator is then in.
+/// A generator of random bytes.
+// An implementation states which bytes a call may return, when it may fail, and what state the generator is then in.
 pub trait CryptoRngCore: Sized {
     /// Fills `out` with random bytes, or fails.
     fn try_fill_bytes(&mut self, out: &mut [u8]) -> Result<(), RngError>;
@@ -126,6 +126,7 @@ pub trait Signer: Sized {
     ///
     /// Errors: `Fault::SamplingLimit` if rejection sampling of the matrix reaches its limit.
     fn get_public_key(&self) -> Result<Self::PublicKey, Fault>;
+
 }
 
 /// Verifying (FIPS 204, Algorithms 3 and 5).
@@ -145,6 +146,7 @@ pub trait Verifier: Sized {
         ctx: &[u8],
         hash_oid: &[u8],
     ) -> bool;
+
 }
 
 /// A signature scheme: every signature that a pair makes verifies under the public key of that pair.
@@ -199,4 +201,5 @@ pub trait SerDes: Sized {
     ///
     /// Errors: `Fault::KeyRange` if the bytes encode no private key. A public key has no error.
     fn try_from_bytes(ba: Self::ByteArray) -> Result<Self, Fault>;
+
 }

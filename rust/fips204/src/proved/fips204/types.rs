@@ -4,9 +4,7 @@
 pub mod pre_hash;
 
 pub(crate) use crate::proved::fips204::keys::KeyTransforms;
-pub use crate::proved::fips204::keys::{
-    PreparedPrivateKey, PreparedPublicKey, PrivateKey, PublicKey,
-};
+pub use crate::proved::fips204::keys::{PreparedPrivateKey, PreparedPublicKey, PrivateKey, PublicKey};
 pub use crate::proved::fips204_base::types::{R, R0, T, T0, Zq};
 use core::marker::PhantomData;
 

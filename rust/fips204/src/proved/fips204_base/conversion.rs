@@ -7,10 +7,10 @@ mod hints;
 
 use crate::proved::fips204_base::helpers::{bit_length, is_in_range};
 use crate::proved::fips204_base::types::{R, R0};
-use crate::simd::{u8x16, u32x4};
 pub use coefficients::{coeff_from_half_byte, coeff_from_three_bytes};
 pub(crate) use hints::write_unpacked_hint;
 pub use hints::{hint_bit_pack, hint_bit_unpack};
+use crate::simd::{u8x16, u32x4};
 
 /// How many bits the fields of coefficients in `[-a, b]` have.
 #[inline(always)]
@@ -100,16 +100,16 @@ pub(crate) fn write_packed_by_range(w: &R, a: i32, b: i32, out: &mut [u8]) {
 #[inline(always)]
 fn four_of_18(bytes: u8x16) -> [u32; 4] {
     let lanes = bytes.shuffle(bytes, [0, 1, 2, 3, 2, 3, 4, 5, 4, 5, 6, 7, 6, 7, 8, 9]);
-    ((u32x4::from_le_bytes(lanes) >> u32x4::from_array([0, 2, 4, 6])) % u32x4::splat(1 << 18))
-        .to_array()
+    ((u32x4::from_le_bytes(lanes) >> u32x4::from_array([0, 2, 4, 6]))
+        % u32x4::splat(1 << 18)).to_array()
 }
 
 /// Four fields of 20 bits, which these bytes begin with.
 #[inline(always)]
 fn four_of_20(bytes: u8x16) -> [u32; 4] {
     let lanes = bytes.shuffle(bytes, [0, 1, 2, 3, 2, 3, 4, 5, 5, 6, 7, 8, 7, 8, 9, 10]);
-    ((u32x4::from_le_bytes(lanes) >> u32x4::from_array([0, 4, 0, 4])) % u32x4::splat(1 << 20))
-        .to_array()
+    ((u32x4::from_le_bytes(lanes) >> u32x4::from_array([0, 4, 0, 4]))
+        % u32x4::splat(1 << 20)).to_array()
 }
 
 /// The last nine bytes, and others after them.

@@ -18,8 +18,15 @@ pub fn power2round<const K: usize>(r: &[R; K]) -> ([R; K], [R; K]) {
 /// `power2round` of each coefficient of `r`, in place: the high parts are written into `high`, and the low parts
 /// over `r`. Internal: serves the crate `fips204` alone.
 pub fn write_power2round<const K: usize>(r: &mut [R; K], high: &mut [R; K]) {
-    write_zip_vectors(high, r, |_, x| power2round_coefficient(x).0);
-    write_map_vector(r, |x| power2round_coefficient(x).1);
+    write_zip_vectors(
+        high,
+        r,
+        |_, x| { power2round_coefficient(x).0 },
+    );
+    write_map_vector(
+        r,
+        |x| { power2round_coefficient(x).1 },
+    );
 }
 
 /// `power2round` of one coefficient.

@@ -8,10 +8,7 @@ pub use crate::proved::fips204_base::lanes::Lanes;
 /// The transform (FIPS 204, Algorithm 41) of each row of 256 values, lane by lane. The lanes have an
 /// absolute value of at most `q - 1`, before and after. Each row raises the meter by 1024
 /// butterflies, for which it needs room.
-pub fn ntt<V: Residue, const KL: usize>(
-    w: &[[V; 256]; KL],
-    meter: &mut V::Meter,
-) -> [[V; 256]; KL] {
+pub fn ntt<V: Residue, const KL: usize>(w: &[[V; 256]; KL], meter: &mut V::Meter) -> [[V; 256]; KL] {
     let mut out = *w;
     for row in 0..KL {
         write_ntt(&mut out[row], meter);

@@ -15,7 +15,8 @@ pub use sha2_ctr::{
     Sha256Ctr, Sha256CtrLong, Sha256CtrReader, Sha512Ctr, Sha512CtrLong, Sha512CtrReader,
 };
 
-/// A reader of an XOF's output. Contracts see it as `rest`, the list of the bytes not yet read.
+/// A reader of an XOF's output.
+// Contracts see it as `rest`, the list of the bytes not yet read.
 pub trait XofReader {
     /// The number of bytes not yet read.
     fn left(&self) -> usize;
@@ -54,6 +55,7 @@ pub trait Xof: Sized {
 
     /// Opens a reader of the output over the concatenated parts; how the input is cut makes no difference.
     fn open(parts: &[&[u8]]) -> Self::Reader;
+
 }
 
 /// The first `N` bytes of the XOF's output over the concatenated parts, as `H(..)` of the standard; `N` is at most

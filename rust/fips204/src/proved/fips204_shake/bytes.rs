@@ -12,8 +12,8 @@ mod calls;
 mod refusal;
 mod slices;
 
-pub use crate::proved::fips204::{Fault, Input, SetName};
 pub use any_set::AnySet;
 pub use calls::{MlDsa, MlDsa44, MlDsa65, MlDsa87};
+pub use crate::proved::fips204::{Fault, Input, SetName};
 pub use refusal::{Buffer, Refusal};
 pub use slices::array_of;

@@ -6,6 +6,6 @@ mod elements;
 mod fault;
 mod keys;
 
-pub use crate::proved::fips204::SetName;
 pub use fault::DerFault;
+pub use crate::proved::fips204::SetName;
 pub use keys::{PrivateKey, SEED_LENGTH, read_private, read_public, write_private, write_public};

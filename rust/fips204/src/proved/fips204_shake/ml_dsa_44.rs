@@ -1,13 +1,11 @@
 // Made by tools/erase of crates/fips204_shake/src/ml_dsa_44.rt. Change that, not this.
 //! ML-DSA-44 over SHAKE256 and SHAKE128.
 
+use crate::proved::fips204_shake::streams::{Shake128Stream, Shake256Stream};
 use crate::proved::fips204::ml_dsa_44;
-pub use crate::proved::fips204::ml_dsa_44::{
-    PK_LEN, PREPARED_PK_LEN, PREPARED_SK_LEN, SIG_LEN, SK_LEN,
-};
+pub use crate::proved::fips204::ml_dsa_44::{PK_LEN, PREPARED_PK_LEN, PREPARED_SK_LEN, SIG_LEN, SK_LEN};
 use crate::proved::fips204::traits::{CryptoRngCore, KeyGen};
 use crate::proved::fips204_base::Fault;
-use crate::proved::fips204_shake::streams::{Shake128Stream, Shake256Stream};
 
 /// Key generation.
 pub type KG = ml_dsa_44::KG<Shake256Stream, Shake128Stream>;
@@ -26,8 +24,6 @@ pub type PreparedPrivateKey = ml_dsa_44::PreparedPrivateKey<Shake256Stream>;
 
 /// Makes a key pair (Algorithm 1) from 32 bytes of the generator, which is asked once. Errors as for
 /// `KeyGen::try_keygen_with_rng`.
-pub fn try_keygen_with_rng<R: CryptoRngCore>(
-    rng: &mut R,
-) -> Result<(PublicKey, PrivateKey), Fault> {
+pub fn try_keygen_with_rng<R: CryptoRngCore>(rng: &mut R) -> Result<(PublicKey, PrivateKey), Fault> {
     KG::try_keygen_with_rng(rng)
 }

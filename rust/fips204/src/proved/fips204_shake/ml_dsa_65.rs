@@ -2,13 +2,11 @@
 // `tools/sets` made this file from that of 44: edit that one.
 //! ML-DSA-65 over SHAKE256 and SHAKE128.
 
+use crate::proved::fips204_shake::streams::{Shake128Stream, Shake256Stream};
 use crate::proved::fips204::ml_dsa_65;
-pub use crate::proved::fips204::ml_dsa_65::{
-    PK_LEN, PREPARED_PK_LEN, PREPARED_SK_LEN, SIG_LEN, SK_LEN,
-};
+pub use crate::proved::fips204::ml_dsa_65::{PK_LEN, PREPARED_PK_LEN, PREPARED_SK_LEN, SIG_LEN, SK_LEN};
 use crate::proved::fips204::traits::{CryptoRngCore, KeyGen};
 use crate::proved::fips204_base::Fault;
-use crate::proved::fips204_shake::streams::{Shake128Stream, Shake256Stream};
 
 /// Key generation.
 pub type KG = ml_dsa_65::KG<Shake256Stream, Shake128Stream>;
@@ -27,8 +25,6 @@ pub type PreparedPrivateKey = ml_dsa_65::PreparedPrivateKey<Shake256Stream>;
 
 /// Makes a key pair (Algorithm 1) from 32 bytes of the generator, which is asked once. Errors as for
 /// `KeyGen::try_keygen_with_rng`.
-pub fn try_keygen_with_rng<R: CryptoRngCore>(
-    rng: &mut R,
-) -> Result<(PublicKey, PrivateKey), Fault> {
+pub fn try_keygen_with_rng<R: CryptoRngCore>(rng: &mut R) -> Result<(PublicKey, PrivateKey), Fault> {
     KG::try_keygen_with_rng(rng)
 }

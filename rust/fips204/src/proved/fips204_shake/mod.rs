@@ -38,11 +38,11 @@ pub mod ml_dsa_87;
 pub mod pieces;
 pub mod streams;
 
-pub use crate::proved::fips204::{
-    Fault, MAX_PREHASH_LEN, MAX_SIGN_ATTEMPTS, RngError, check_pre_hash, fault, pre_hash, traits,
-    xof,
-};
 pub use bytes::{Buffer, Input, Refusal, SetName};
+pub use crate::proved::fips204::{
+    Fault, MAX_PREHASH_LEN, MAX_SIGN_ATTEMPTS, RngError, check_pre_hash, fault, pre_hash,
+    traits, xof,
+};
 use streams::{Shake128Stream, Shake256Stream};
 
 /// The calls of ML-DSA-44 over bytes.

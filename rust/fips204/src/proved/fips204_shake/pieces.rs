@@ -1,10 +1,10 @@
 // Made by tools/erase of crates/fips204_shake/src/pieces.rt. Change that, not this.
 //! The hash mu of a message that comes in pieces, which `sign_mu` and `verify_mu` take.
 
-use crate::proved::fips204::Fault;
-use crate::proved::fips204::xof::hash;
 use crate::proved::fips204_shake::bytes::{Buffer, Refusal, SetName};
 use crate::proved::fips204_shake::streams::Shake256Stream;
+use crate::proved::fips204::Fault;
+use crate::proved::fips204::xof::hash;
 use crate::proved::shake::Shake256;
 
 /// Hashes a message in pieces (FIPS 204, Algorithm 2 to the message M', and line 6 of Algorithm 7). Contracts say by

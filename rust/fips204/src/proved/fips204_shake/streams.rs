@@ -90,3 +90,4 @@ impl Xof for Shake128Stream {
         SpongeReader::open(parts)
     }
 }
+

@@ -1,12 +1,12 @@
 // Made by tools/erase of crates/mldsa_c/src/der.rt. Change that, not this.
 //! Keys in DER (RFC 9881): what the exports of each set do.
 
+use crate::proved::mldsa_c::statuses::{DONE, WRONG_LENGTH, status_of_refusal};
 use crate::proved::fips204_shake::bytes::array_of;
 use crate::proved::fips204_shake::der::{
     DerFault, PrivateKey, read_private, read_public, write_private, write_public,
 };
 use crate::proved::fips204_shake::{AnySet, Fault, Refusal, SetName};
-use crate::proved::mldsa_c::statuses::{DONE, WRONG_LENGTH, status_of_refusal};
 
 /// The key is one of another parameter set.
 const OTHER_SET: u32 = 24;

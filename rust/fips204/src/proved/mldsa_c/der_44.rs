@@ -1,8 +1,8 @@
 // Made by tools/erase of crates/mldsa_c/src/der_44.rt. Change that, not this.
 //! The exports of ML-DSA-44 for keys in DER.
 
-use crate::proved::fips204_shake::SetName;
 use crate::proved::mldsa_c::der;
+use crate::proved::fips204_shake::SetName;
 
 /// Writes a public key in DER.
 pub fn mldsa44_public_key_to_der(public_key: &[u8], public_key_der: &mut [u8]) -> u32 {
@@ -30,7 +30,10 @@ pub fn mldsa44_both_to_der(seed: &[u8], both_der: &mut [u8]) -> u32 {
 }
 
 /// Reads a private key in DER.
-pub fn mldsa44_private_key_from_der(private_key_der: &[u8], private_key: &mut [u8]) -> u32 {
+pub fn mldsa44_private_key_from_der(
+    private_key_der: &[u8],
+    private_key: &mut [u8],
+) -> u32 {
     der::private_key_from_der(SetName::MlDsa44, private_key_der, private_key)
 }
 

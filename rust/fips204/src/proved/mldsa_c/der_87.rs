@@ -2,8 +2,8 @@
 // `tools/sets` made this file from that of 44: edit that one.
 //! The exports of ML-DSA-87 for keys in DER.
 
-use crate::proved::fips204_shake::SetName;
 use crate::proved::mldsa_c::der;
+use crate::proved::fips204_shake::SetName;
 
 /// Writes a public key in DER.
 pub fn mldsa87_public_key_to_der(public_key: &[u8], public_key_der: &mut [u8]) -> u32 {
@@ -31,7 +31,10 @@ pub fn mldsa87_both_to_der(seed: &[u8], both_der: &mut [u8]) -> u32 {
 }
 
 /// Reads a private key in DER.
-pub fn mldsa87_private_key_from_der(private_key_der: &[u8], private_key: &mut [u8]) -> u32 {
+pub fn mldsa87_private_key_from_der(
+    private_key_der: &[u8],
+    private_key: &mut [u8],
+) -> u32 {
     der::private_key_from_der(SetName::MlDsa87, private_key_der, private_key)
 }
 

@@ -1,11 +1,9 @@
 // Made by tools/erase of crates/mldsa_c/src/ml_dsa_44.rt. Change that, not this.
 //! The exports of ML-DSA-44.
 
-use crate::proved::fips204_shake::{Input, MlDsa44, SetName};
 use crate::proved::mldsa_c::pieces;
-use crate::proved::mldsa_c::statuses::{
-    WRONG_LENGTH, accepted, checked_array, status, verdict_status,
-};
+use crate::proved::mldsa_c::statuses::{WRONG_LENGTH, accepted, checked_array, status, verdict_status};
+use crate::proved::fips204_shake::{Input, MlDsa44, SetName};
 
 /// Makes the key pair of a seed of 32 bytes.
 pub fn mldsa44_keygen(seed: &[u8], public_key: &mut [u8], private_key: &mut [u8]) -> u32 {
@@ -27,13 +25,23 @@ pub fn mldsa44_sign(
 }
 
 /// Tells whether a public key accepts the signature of a message under a context.
-pub fn mldsa44_verify(public_key: &[u8], message: &[u8], context: &[u8], signature: &[u8]) -> u32 {
+pub fn mldsa44_verify(
+    public_key: &[u8],
+    message: &[u8],
+    context: &[u8],
+    signature: &[u8],
+) -> u32 {
     let signed = Input::Message(message, context);
     verdict_status(MlDsa44::verify(public_key, &signed, signature))
 }
 
 /// Tells the same as `mldsa44_verify` by 1 for yes and 0 for everything else.
-pub fn mldsa44_accepts(public_key: &[u8], message: &[u8], context: &[u8], signature: &[u8]) -> u32 {
+pub fn mldsa44_accepts(
+    public_key: &[u8],
+    message: &[u8],
+    context: &[u8],
+    signature: &[u8],
+) -> u32 {
     accepted(mldsa44_verify(public_key, message, context, signature))
 }
 
@@ -64,15 +72,15 @@ pub fn mldsa44_hash_verify(
 }
 
 /// Signs the hash `mu` of a framed message, which has 64 bytes, from 32 random bytes.
-pub fn mldsa44_sign_mu(private_key: &[u8], mu: &[u8], random: &[u8], signature: &mut [u8]) -> u32 {
+pub fn mldsa44_sign_mu(
+    private_key: &[u8],
+    mu: &[u8],
+    random: &[u8],
+    signature: &mut [u8],
+) -> u32 {
     let mu = checked_array!(mu, 64);
     let random = checked_array!(random, 32);
-    status(MlDsa44::sign(
-        private_key,
-        random,
-        &Input::Mu(mu),
-        signature,
-    ))
+    status(MlDsa44::sign(private_key, random, &Input::Mu(mu), signature))
 }
 
 /// Tells whether a public key accepts the signature of the hash `mu` of a framed message.
@@ -107,6 +115,10 @@ pub fn mldsa44_mu_begin(public_key: &[u8], context: &[u8], state: &mut [u8]) -> 
 }
 
 /// Begins a message in pieces that a private key is to sign, under a context.
-pub fn mldsa44_mu_begin_private(private_key: &[u8], context: &[u8], state: &mut [u8]) -> u32 {
+pub fn mldsa44_mu_begin_private(
+    private_key: &[u8],
+    context: &[u8],
+    state: &mut [u8],
+) -> u32 {
     pieces::begin_private(SetName::MlDsa44, private_key, context, state)
 }

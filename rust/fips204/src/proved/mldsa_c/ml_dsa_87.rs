@@ -2,11 +2,9 @@
 // `tools/sets` made this file from that of 44: edit that one.
 //! The exports of ML-DSA-87.
 
-use crate::proved::fips204_shake::{Input, MlDsa87, SetName};
 use crate::proved::mldsa_c::pieces;
-use crate::proved::mldsa_c::statuses::{
-    WRONG_LENGTH, accepted, checked_array, status, verdict_status,
-};
+use crate::proved::mldsa_c::statuses::{WRONG_LENGTH, accepted, checked_array, status, verdict_status};
+use crate::proved::fips204_shake::{Input, MlDsa87, SetName};
 
 /// Makes the key pair of a seed of 32 bytes.
 pub fn mldsa87_keygen(seed: &[u8], public_key: &mut [u8], private_key: &mut [u8]) -> u32 {
@@ -28,13 +26,23 @@ pub fn mldsa87_sign(
 }
 
 /// Tells whether a public key accepts the signature of a message under a context.
-pub fn mldsa87_verify(public_key: &[u8], message: &[u8], context: &[u8], signature: &[u8]) -> u32 {
+pub fn mldsa87_verify(
+    public_key: &[u8],
+    message: &[u8],
+    context: &[u8],
+    signature: &[u8],
+) -> u32 {
     let signed = Input::Message(message, context);
     verdict_status(MlDsa87::verify(public_key, &signed, signature))
 }
 
 /// Tells the same as `mldsa87_verify` by 1 for yes and 0 for everything else.
-pub fn mldsa87_accepts(public_key: &[u8], message: &[u8], context: &[u8], signature: &[u8]) -> u32 {
+pub fn mldsa87_accepts(
+    public_key: &[u8],
+    message: &[u8],
+    context: &[u8],
+    signature: &[u8],
+) -> u32 {
     accepted(mldsa87_verify(public_key, message, context, signature))
 }
 
@@ -65,15 +73,15 @@ pub fn mldsa87_hash_verify(
 }
 
 /// Signs the hash `mu` of a framed message, which has 64 bytes, from 32 random bytes.
-pub fn mldsa87_sign_mu(private_key: &[u8], mu: &[u8], random: &[u8], signature: &mut [u8]) -> u32 {
+pub fn mldsa87_sign_mu(
+    private_key: &[u8],
+    mu: &[u8],
+    random: &[u8],
+    signature: &mut [u8],
+) -> u32 {
     let mu = checked_array!(mu, 64);
     let random = checked_array!(random, 32);
-    status(MlDsa87::sign(
-        private_key,
-        random,
-        &Input::Mu(mu),
-        signature,
-    ))
+    status(MlDsa87::sign(private_key, random, &Input::Mu(mu), signature))
 }
 
 /// Tells whether a public key accepts the signature of the hash `mu` of a framed message.
@@ -108,6 +116,10 @@ pub fn mldsa87_mu_begin(public_key: &[u8], context: &[u8], state: &mut [u8]) -> 
 }
 
 /// Begins a message in pieces that a private key is to sign, under a context.
-pub fn mldsa87_mu_begin_private(private_key: &[u8], context: &[u8], state: &mut [u8]) -> u32 {
+pub fn mldsa87_mu_begin_private(
+    private_key: &[u8],
+    context: &[u8],
+    state: &mut [u8],
+) -> u32 {
     pieces::begin_private(SetName::MlDsa87, private_key, context, state)
 }

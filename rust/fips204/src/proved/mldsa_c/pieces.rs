@@ -1,9 +1,9 @@
 // Made by tools/erase of crates/mldsa_c/src/pieces.rt. Change that, not this.
 //! A message in pieces: a state in the caller's bytes, which any bytes may stand in.
 
+use crate::proved::mldsa_c::statuses::{BROKEN_STATE, DONE, WRONG_LENGTH, status_of_refusal};
 use crate::proved::fips204_shake::SetName;
 use crate::proved::fips204_shake::pieces::{MessageHasher, SAVED_LEN};
-use crate::proved::mldsa_c::statuses::{BROKEN_STATE, DONE, WRONG_LENGTH, status_of_refusal};
 
 /// Begins a message that a public key is to verify.
 pub(crate) fn begin(set: SetName, public_key: &[u8], context: &[u8], state: &mut [u8]) -> u32 {

@@ -2,11 +2,14 @@
 // `tools/sets` made this file from that of 44: edit that one.
 //! The exports of ML-DSA-65 with prepared keys.
 
-use crate::proved::fips204_shake::{Input, MlDsa65};
 use crate::proved::mldsa_c::statuses::{WRONG_LENGTH, checked_array, status, verdict_status};
+use crate::proved::fips204_shake::{Input, MlDsa65};
 
 /// Prepares a public key for many verifications.
-pub fn mldsa65_prepare_public_key(public_key: &[u8], prepared_public_key: &mut [u8]) -> u32 {
+pub fn mldsa65_prepare_public_key(
+    public_key: &[u8],
+    prepared_public_key: &mut [u8],
+) -> u32 {
     status(MlDsa65::prepare_public_key(public_key, prepared_public_key))
 }
 
@@ -18,11 +21,7 @@ pub fn mldsa65_verify_prepared(
     signature: &[u8],
 ) -> u32 {
     let signed = Input::Message(message, context);
-    verdict_status(MlDsa65::verify_prepared(
-        prepared_public_key,
-        &signed,
-        signature,
-    ))
+    verdict_status(MlDsa65::verify_prepared(prepared_public_key, &signed, signature))
 }
 
 /// Tells whether a prepared public key accepts the signature of a digest under a context; `oid` names its hash function.
@@ -34,29 +33,25 @@ pub fn mldsa65_hash_verify_prepared(
     signature: &[u8],
 ) -> u32 {
     let signed = Input::Digest(digest, context, oid);
-    verdict_status(MlDsa65::verify_prepared(
-        prepared_public_key,
-        &signed,
-        signature,
-    ))
+    verdict_status(MlDsa65::verify_prepared(prepared_public_key, &signed, signature))
 }
 
 /// Tells whether a prepared public key accepts the signature of the hash `mu` of a framed message.
-pub fn mldsa65_verify_mu_prepared(prepared_public_key: &[u8], mu: &[u8], signature: &[u8]) -> u32 {
+pub fn mldsa65_verify_mu_prepared(
+    prepared_public_key: &[u8],
+    mu: &[u8],
+    signature: &[u8],
+) -> u32 {
     let signed = checked_array!(mu, 64);
-    verdict_status(MlDsa65::verify_prepared(
-        prepared_public_key,
-        &Input::Mu(signed),
-        signature,
-    ))
+    verdict_status(MlDsa65::verify_prepared(prepared_public_key, &Input::Mu(signed), signature))
 }
 
 /// Prepares a private key for many signatures.
-pub fn mldsa65_prepare_private_key(private_key: &[u8], prepared_private_key: &mut [u8]) -> u32 {
-    status(MlDsa65::prepare_private_key(
-        private_key,
-        prepared_private_key,
-    ))
+pub fn mldsa65_prepare_private_key(
+    private_key: &[u8],
+    prepared_private_key: &mut [u8],
+) -> u32 {
+    status(MlDsa65::prepare_private_key(private_key, prepared_private_key))
 }
 
 /// Signs a message under a context with a prepared private key, from 32 random bytes.
@@ -69,12 +64,7 @@ pub fn mldsa65_sign_prepared(
 ) -> u32 {
     let random = checked_array!(random, 32);
     let input = Input::Message(message, context);
-    status(MlDsa65::sign_prepared(
-        prepared_private_key,
-        random,
-        &input,
-        signature,
-    ))
+    status(MlDsa65::sign_prepared(prepared_private_key, random, &input, signature))
 }
 
 /// Signs a digest under a context with a prepared private key, from 32 random bytes; `oid` names its hash function.
@@ -88,12 +78,7 @@ pub fn mldsa65_hash_sign_prepared(
 ) -> u32 {
     let random = checked_array!(random, 32);
     let input = Input::Digest(digest, context, oid);
-    status(MlDsa65::sign_prepared(
-        prepared_private_key,
-        random,
-        &input,
-        signature,
-    ))
+    status(MlDsa65::sign_prepared(prepared_private_key, random, &input, signature))
 }
 
 /// Signs the hash `mu` of a framed message, which has 64 bytes, with a prepared private key, from 32 random bytes.
@@ -105,10 +90,5 @@ pub fn mldsa65_sign_mu_prepared(
 ) -> u32 {
     let mu = checked_array!(mu, 64);
     let random = checked_array!(random, 32);
-    status(MlDsa65::sign_prepared(
-        prepared_private_key,
-        random,
-        &Input::Mu(mu),
-        signature,
-    ))
+    status(MlDsa65::sign_prepared(prepared_private_key, random, &Input::Mu(mu), signature))
 }

@@ -44,10 +44,7 @@ pub fn read_public_key(
     form: Form,
     set: SetName,
     file: &[u8],
-) -> Result<PublicKey, FileFault>
-// What is read is what the file has.
-    // Which fault it is. The key of a file is read (`laws::keys_are_read`).
-{
+) -> Result<PublicKey, FileFault> {
     match form {
         Form::Pem => {
             let text = strict_form(alloc, Kind::Public, file)?;

@@ -67,9 +67,7 @@ fn made_strict(alloc: Global, kind: Kind, text: &[u8]) -> Result<Vec<u8>, AllocE
 /// The strict form of a text of this kind: what stands before its first line and behind its last one is left out, as is white space
 /// between them, and what remains of the lines between gets 64 characters a line, and LF. Behind the last line nothing is left out from
 /// the beginning of another text on. A text without a first line of this kind has its fault in the strict form too.
-pub fn strict_form(alloc: Global, kind: Kind, text: &[u8]) -> Result<Vec<u8>, AllocError>
-// A text in the strict form stays as it is, but that its lines end in LF.
-{
+pub fn strict_form(alloc: Global, kind: Kind, text: &[u8]) -> Result<Vec<u8>, AllocError> {
     made_strict(alloc, kind, text)
 }
 

@@ -180,11 +180,7 @@ fn spelled(alloc: Global, kind: Kind, text: &[u8]) -> Result<Vec<u8>, FileFault>
 /// of 64 characters, and all of them end in LF or all in CR and LF. Nothing stands before, between or after them.
 ///
 /// Errors: the first fault from the text's beginning, or `Memory`.
-pub fn decode(alloc: Global, kind: Kind, text: &[u8]) -> Result<Vec<u8>, FileFault>
-// What is read is what the text spells.
-    // What a text spells is read, unless memory runs out.
-    // Which fault it is.
-{
+pub fn decode(alloc: Global, kind: Kind, text: &[u8]) -> Result<Vec<u8>, FileFault> {
     spelled(alloc, kind, text)
 }
 

@@ -17,11 +17,11 @@ use mlsign_engine::pem::Kind;
 use mlsign_engine::{
     AnyKey, CommandFault, Form, KeyFiles, KeyPair, Parts, PublicKey, Reader, SigningKey, Source,
 };
+use sha2::{Digest, Sha256};
 use rattle_std::alloc::Global;
 use rattle_std::fs::{File, OpenFile};
 use rattle_std::io::{self, IsTerminal, Stdin};
 use rattle_std::random::RandomSource;
-use sha2::{Digest, Sha256};
 
 /// A message that is read.
 pub(crate) type Message<'a> = Progress<'a, Either<File, Stdin>>;
@@ -143,9 +143,9 @@ pub(crate) fn signature_path(
     let path = match words.get_str(name) {
         Some(_) if has_several(words, "message") => bail!("--{name} is for one message"),
         Some(path) => String::from_str(alloc, path),
-        None if message == STANDARD => {
-            bail!("--{name} has to name the signature of standard input")
-        }
+        None if message == STANDARD => bail!(
+            "--{name} has to name the signature of standard input"
+        ),
         None => Ok(try_format!(alloc; "{message}.sig")?),
     };
     Ok(path.map_err(io::Error::from)?)
@@ -278,8 +278,7 @@ pub(crate) fn show(rt: &HostRuntime, words: &ArgMatches<'_>) -> Result<(), Error
     let hash = hex::encode(rt.alloc(), &public.hash()).map_err(io::Error::from)?;
     try_println!(rt;
         "kind: {kind}\nset: {set}\nfingerprint: {fingerprint}\nhash of the public key: {hash}"
-    )
-    .context("standard output")
+    ).context("standard output")
 }
 
 /// Writes a key in another form.

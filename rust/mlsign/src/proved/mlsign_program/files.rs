@@ -30,10 +30,11 @@ const STANDARD_INPUT: &str = "/dev/stdin";
 /// What the system says of a file that is read.
 pub(crate) fn metadata(rt: &HostRuntime, path: &str) -> io::Result<Metadata> {
     fs::metadata(if path == STANDARD {
-        STANDARD_INPUT
-    } else {
-        path
-    })
+            STANDARD_INPUT
+        } else {
+            path
+        },
+    )
 }
 
 /// Notes that others can read or write a private key's file that was read, if they can.

@@ -125,9 +125,7 @@ impl<'a> KeyFile<'a> {
     /// The private key that it has, and the public key that belongs to it.
     pub(crate) fn pair(&self, alloc: Global) -> Result<KeyPair, Error> {
         let bytes = self.bytes.as_slice();
-        self.name(mlsign_engine::read_private_key(
-            alloc, self.form, self.set, bytes,
-        ))
+        self.name(mlsign_engine::read_private_key(alloc, self.form, self.set, bytes))
     }
 
     /// The key that it has, of either kind.

@@ -4,9 +4,7 @@
 use crate::standing::*;
 
 use crate::proved::mlsign_program::files::{note_open, read_start};
-use crate::proved::mlsign_program::labels::{
-    has_private_label, is_other_private_key, labels_private,
-};
+use crate::proved::mlsign_program::labels::{has_private_label, is_other_private_key, labels_private};
 use crate::proved::mlsign_program::text::{about, note};
 use anyhow::{Context, Error};
 use fips204_shake::der::read_private;
@@ -15,10 +13,10 @@ use mlsign_engine::{KeyFiles, kind_of_text};
 use rattle_std::alloc::AllocError;
 use rattle_std::fs::{self, File, Metadata, OpenFile, OpenOptions, TryLockError};
 use rattle_std::io::{self, ErrorKind, Write};
+use std::os::unix::fs::{FileTypeExt, MetadataExt, OpenOptionsExt};
 use rattle_std::random::RandomSource;
 use rattle_std::thread;
 use rattle_std::time::Duration;
-use std::os::unix::fs::{FileTypeExt, MetadataExt, OpenOptionsExt};
 
 /// What a file that is written has.
 #[derive(Debug, Clone, Copy, PartialEq, Eq)]
@@ -499,10 +497,7 @@ impl Target<'_> {
             return Err(private_stays(path));
         }
         if !self.force && !self.may_replace(start) {
-            return Err(about(
-                path,
-                "it is there already, and only --force replaces it",
-            ));
+            return Err(about(path, "it is there already, and only --force replaces it"));
         }
         if found.permissions().readonly() {
             return Err(about(path, "it is read-only, and is not replaced"));

@@ -51,10 +51,7 @@ fn answer_process(rt: &HostRuntime) -> Result<bool, Error> {
         Err(error) if error.kind() == ErrorKind::InvalidData => return Err(unreadable(rt)?),
         words => words?,
     };
-    let words: Vec<String> = words
-        .skip(1)
-        .collect_in(rt.alloc())
-        .map_err(io::Error::from)?;
+    let words: Vec<String> = words.skip(1).collect_in(rt.alloc()).map_err(io::Error::from)?;
     answer(rt, words.as_slice())
 }
 

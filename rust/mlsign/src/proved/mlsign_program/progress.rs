@@ -53,8 +53,9 @@ impl<'a, I> Progress<'a, I> {
     /// Why the message with this name was not read.
     pub(crate) fn fault(&self, message: &str) -> Error {
         match self.failed {
-            Some(number) => Error::from(io::Error::from_raw_os_error(number))
-                .context("the message was not read"),
+            Some(number) => Error::from(io::Error::from_raw_os_error(number)).context(
+                "the message was not read",
+            ),
             None => Error::from(CommandFault::Message),
         }
         .context(message)

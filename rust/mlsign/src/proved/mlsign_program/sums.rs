@@ -11,10 +11,10 @@ use crate::proved::mlsign_program::verify::{
 };
 use anyhow::{Context, Error};
 use clap::ArgMatches;
+use sha2::{Digest, Sha256};
 use rattle_std::alloc::Global;
 use rattle_std::fs::{File, OpenFile};
 use rattle_std::io::{self, ErrorKind, Read};
-use sha2::{Digest, Sha256};
 
 /// The most bytes of a list.
 const LONGEST: usize = 16_777_216;
@@ -146,10 +146,7 @@ fn read_sums<'a>(alloc: Global, path: &str, list: &'a [u8]) -> Result<Vec<Sum<'a
     };
     for sum in &sums {
         if sum.name.as_str() == STANDARD {
-            return Err(about(
-                path,
-                "it has the sum of standard input, which is no file",
-            ));
+            return Err(about(path, "it has the sum of standard input, which is no file"));
         }
     }
     Ok(sums)
@@ -290,9 +287,7 @@ fn tell(
     let has = end.context(sum.name.as_str())?;
     let name = printable(rt.alloc(), sum.name.as_str()).map_err(io::Error::from)?;
     if !has {
-        let _ = rt.eprintln(format_args!(
-            "mlsign: {name}: it is not the file of the list"
-        ));
+        let _ = rt.eprintln(format_args!("mlsign: {name}: it is not the file of the list"));
     } else if !words.get_flag("quiet") {
         try_println!(rt; "{name}: OK").context("standard output")?;
     }

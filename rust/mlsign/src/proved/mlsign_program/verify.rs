@@ -60,11 +60,7 @@ impl Ends {
     }
 
     /// Counts an end. An error ends the call if there is one message, and else has a line.
-    pub(crate) fn count(
-        &mut self,
-        rt: &HostRuntime,
-        end: Result<bool, Error>,
-    ) -> Result<(), Error> {
+    pub(crate) fn count(&mut self, rt: &HostRuntime, end: Result<bool, Error>) -> Result<(), Error> {
         match end {
             Ok(true) => {}
             Ok(false) => self.invalid = self.invalid.saturating_add(1),
@@ -156,9 +152,9 @@ fn fingerprint<'a>(words: &ArgMatches<'a>) -> Result<Option<&'a str>, Error> {
     match STANDARD_NO_PAD.decode_slice(digest.as_bytes(), &mut [0; 32]) {
         Ok(32) => Ok(Some(text)),
         // (behind a long text there is no room for the rest of a message)
-        _ => Err(
-            Error::msg("it is no fingerprint, which is SHA256: and 43 characters").context(text),
-        ),
+        _ => Err(Error::msg("it is no fingerprint, which is SHA256: and 43 characters").context(
+            text,
+        )),
     }
 }
 
@@ -167,9 +163,7 @@ fn key_of<'a>(
     rt: &HostRuntime,
     words: &ArgMatches<'_>,
     path: &'a str,
-) -> Result<TrustedKey<'a>, Error>
-// What verifies is the key of the file's bytes.
-{
+) -> Result<TrustedKey<'a>, Error> {
     let file = KeyFile::read(rt, words, path, Some(Kind::Public))?;
     let key = file.verifying_key(rt.alloc())?;
     let set = key.key().algorithm();
@@ -230,10 +224,7 @@ fn verify_message(
     let signature = read_signature(rt, words, message)?;
     let signature = signature.as_slice();
     if keys.len() > 1 && !metadata(rt, message).context(message)?.is_file() {
-        return Err(about(
-            message,
-            "it can be read only once: give one public key",
-        ));
+        return Err(about(message, "it can be read only once: give one public key"));
     }
     let shown = has_several(words, "message");
     for key in keys.iter_mut() {

@@ -65,7 +65,8 @@ fn verify<'a>(alloc: Global) -> Result<Command<'a>, AllocError> {
     let public = arg!(in alloc; -p --public <FILE> "The public key; repeatable: any may match");
     let fingerprint =
         arg!(in alloc; --fingerprint <TEXT> "Take only a public key with this fingerprint");
-    let sums = arg!(in alloc; --sums "The first message is a list of sha256sum: check the others by it, or all in it");
+    let sums =
+        arg!(in alloc; --sums "The first message is a list of sha256sum: check the others by it, or all in it");
     let missing = arg!(in alloc; --"ignore-missing" "Leave out files of the list that are missing");
     Command::new(alloc, "verify")
         .about("Verifies signatures of messages")
@@ -89,8 +90,9 @@ fn show<'a>(alloc: Global) -> Result<Command<'a>, AllocError> {
 }
 
 fn convert<'a>(alloc: Global) -> Result<Command<'a>, AllocError> {
-    let from =
-        arg!(in alloc; --from <FORM> "The form of the key that is read").default_value("pem");
+    let from = arg!(in alloc; --from <FORM> "The form of the key that is read").default_value(
+        "pem",
+    );
     let to = arg!(in alloc; --to <FORM> "The form of the key that is written").default_value("pem");
     let set = arg!(in alloc; --set <SET> "The parameter set of raw bytes, if they are a seed");
     let parts = arg!(in alloc; --parts <PARTS> "Parts of the private key to write [default: all]");
@@ -106,7 +108,8 @@ fn convert<'a>(alloc: Global) -> Result<Command<'a>, AllocError> {
 }
 
 /// What the exit status says.
-const STATUSES: &str = "Exit status: 0 if done, or all is valid; 1 if a signature or a sum is invalid; 2 for anything else";
+const STATUSES: &str =
+    "Exit status: 0 if done, or all is valid; 1 if a signature or a sum is invalid; 2 for anything else";
 
 /// The words for parameter sets.
 const SETS: [&str; 3] = ["44", "65", "87"];

@@ -14,6 +14,7 @@ pub(crate) trait SignsInput: Sized {
 
     /// Signs an input with these random bytes.
     fn sign_with(&self, random: &[u8; 32], input: &Input<'_>) -> Result<Self::Signature, Fault>;
+
 }
 
 /// Signs an input with 32 random bytes of the generator, which is asked once, and not for an input that is rejected.

@@ -32,13 +32,15 @@ pub(crate) fn mu_of<'a, H: Xof>(tr: &'a [u8; 64], input: &Input<'a>) -> Result<[
         Input::Message(message, context) => {
             mu::<H>(&[tr.as_slice(), &[0, context.len() as u8], context, message])
         }
-        Input::Digest(digest, context, oid) => mu::<H>(&[
-            tr.as_slice(),
-            &[1, context.len() as u8],
-            context,
-            oid,
-            digest,
-        ]),
+        Input::Digest(digest, context, oid) => {
+            mu::<H>(&[
+                tr.as_slice(),
+                &[1, context.len() as u8],
+                context,
+                oid,
+                digest,
+            ])
+        }
         Input::Framed(m) => mu::<H>(&[tr.as_slice(), m]),
         Input::Mu(mu) => *mu,
     })

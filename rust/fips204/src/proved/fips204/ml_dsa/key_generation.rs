@@ -10,9 +10,7 @@ use crate::proved::fips204_base::hashing::write_expanded_s;
 use crate::proved::fips204_base::helpers::full_reduce32;
 use crate::proved::fips204_base::high_low::write_power2round;
 use crate::proved::fips204_base::maps::write_zip_vectors;
-use crate::proved::fips204_base::product::{
-    Transforms, write_matrix_product, write_sampled_product,
-};
+use crate::proved::fips204_base::product::{Transforms, write_matrix_product, write_sampled_product};
 use crate::proved::fips204_base::xof::{Xof, hash};
 use core::marker::PhantomData;
 
@@ -59,8 +57,15 @@ pub fn key_gen_internal<const K: usize, const L: usize, const PK_LEN: usize, H: 
     Ok((public, private))
 }
 
-impl<S, const K: usize, const L: usize, const PK_LEN: usize, const SK_LEN: usize, H: Xof, G: Xof>
-    KG<K, L, H, G>
+impl<
+    S,
+    const K: usize,
+    const L: usize,
+    const PK_LEN: usize,
+    const SK_LEN: usize,
+    H: Xof,
+    G: Xof,
+> KG<K, L, H, G>
 where
     Matrix<K, L>: HasSet<Set = S>,
     S: Set<PublicKey = [u8; PK_LEN], PrivateKey = [u8; SK_LEN]> + KeySizes<K, L, PK_LEN, SK_LEN>,
@@ -173,7 +178,11 @@ fn write_key_vector<const K: usize, const L: usize, G: Xof>(
 crate::levels::with_avx2! {
     /// Adds `v` to `t`, with results from 0 to `q - 1`. Coefficients of both are below `q` in absolute value.
     fn write_sum<const K: usize>(t: &mut [R; K], v: &[R; K]) {
-        write_zip_vectors(t, v, |x, y| full_reduce32(x + y));
+        write_zip_vectors(
+            t,
+            v,
+            |x, y| { full_reduce32(x + y) },
+        );
     }
 }
 
@@ -187,10 +196,7 @@ pub fn key_gen<
     H: Xof,
     G: Xof,
     R: CryptoRngCore,
->(
-    p: &Params,
-    rng: &mut R,
-) -> Result<(PublicKey<K, L, H, G>, PrivateKey<K, L, H, G>), Fault> {
+>(p: &Params, rng: &mut R) -> Result<(PublicKey<K, L, H, G>, PrivateKey<K, L, H, G>), Fault> {
     key_gen_internal::<K, L, PK_LEN, H, G>(p, &draw(rng, Fault::KeyGenRng)?)
 }
 

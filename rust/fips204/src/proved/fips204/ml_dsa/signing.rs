@@ -49,13 +49,7 @@ pub fn sign_internal<const K: usize, const L: usize, const SIG_LEN: usize, H: Xo
 ///
 /// Not inlined, so that the matrix is in the stack only while the key signs.
 #[inline(never)]
-pub(crate) fn write_signature<
-    const K: usize,
-    const L: usize,
-    const SIG_LEN: usize,
-    H: Xof,
-    G: Xof,
->(
+pub(crate) fn write_signature<const K: usize, const L: usize, const SIG_LEN: usize, H: Xof, G: Xof>(
     p: &Params,
     sk: &PrivateKey<K, L, H, G>,
     mu: &[u8; 64],
@@ -208,7 +202,11 @@ crate::levels::with_avx2! {
     /// Writes `HighBits` of each coefficient of `w`. `gamma2` is 95232 or 261888, and coefficients are below `q` in
     /// absolute value.
     fn write_high_vector<const K: usize>(gamma2: i32, w: &[R; K], out: &mut [R; K]) {
-        write_zip_vectors(out, w, |_, x| high_bits(gamma2, x));
+        write_zip_vectors(
+            out,
+            w,
+            |_, x| { high_bits(gamma2, x) },
+        );
     }
 }
 
@@ -221,21 +219,33 @@ pub(crate) fn has_norm_below<const N: usize>(v: &[R; N], bound: u32) -> bool {
 crate::levels::with_avx2! {
     /// Adds `y` to `z`, centred. Coefficients of `y` are at most 524288, and those of `z` below `q`, in absolute value.
     fn write_centred_sum<const L: usize>(z: &mut [R; L], y: &[R; L]) {
-        write_zip_vectors(z, y, |product, mask| center_mod(mask + product));
+        write_zip_vectors(
+            z,
+            y,
+            |product, mask| { center_mod(mask + product) },
+        );
     }
 }
 
 crate::levels::with_avx2! {
     /// Takes `v` from `w`, which stays below `q` in absolute value, as coefficients of both are.
     fn write_difference<const K: usize>(w: &mut [R; K], v: &[R; K]) {
-        write_zip_vectors(w, v, |x, product| difference(x, product));
+        write_zip_vectors(
+            w,
+            v,
+            |x, product| { difference(x, product) },
+        );
     }
 }
 
 crate::levels::with_avx2! {
     /// Writes `LowBits` of each coefficient of `v`, which are below `q` in absolute value.
     fn write_low_vector<const K: usize>(gamma2: i32, v: &[R; K], out: &mut [R; K]) {
-        write_zip_vectors(out, v, |_, x| low_bits(gamma2, x));
+        write_zip_vectors(
+            out,
+            v,
+            |_, x| { low_bits(gamma2, x) },
+        );
     }
 }
 
@@ -246,9 +256,7 @@ crate::levels::with_avx2! {
         write_zip_vectors(
             t,
             v,
-            |t, x| {
-                if make_hint(gamma2, -t, x + t) { 1 } else { 0 }
-            },
+            |t, x| { if make_hint(gamma2, -t, x + t) { 1 } else { 0 } },
         );
     }
 }

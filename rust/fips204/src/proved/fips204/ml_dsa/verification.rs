@@ -78,9 +78,7 @@ pub(crate) fn verify_by_bytes<const K: usize, const L: usize, H: Xof>(
     let mut az = Transforms::zeros();
     let c_hat = az.write_transforms_and_factor(&z, &c);
     write_read_product::<K, L>(matrix, &mut az)?;
-    Some(is_committed_by::<K, H>(
-        p, mu, c_tilde, &h, &c_hat, &mut az, t1,
-    ))
+    Some(is_committed_by::<K, H>(p, mu, c_tilde, &h, &c_hat, &mut az, t1))
 }
 
 /// `is_committed` with `t1` itself, whose transforms are in the stack only here.
@@ -160,7 +158,11 @@ crate::levels::with_avx2! {
     /// Coefficients of `w` are below `q` in absolute value, those of `h` 0 or 1. `K` is that of the parameter set.
     fn write_hinted<const K: usize>(p: &Params, h: &[R; K], w: &mut [R; K]) {
         let gamma2 = p.gamma2;
-        write_zip_vectors(w, h, |w, h| use_hint(gamma2, h, w));
+        write_zip_vectors(
+            w,
+            h,
+            |w, h| { use_hint(gamma2, h, w) },
+        );
     }
 }
 
@@ -174,5 +176,8 @@ pub(crate) fn write_shifted_transforms<const K: usize>(t1: &[R; K], out: &mut Tr
 
 /// `t1 2^d`, with coefficients from 0 to `q - 1`.
 fn t1_shifted<const K: usize>(t1: &[R; K]) -> [R; K] {
-    map_vector(t1, |x| x << D)
+    map_vector(
+        t1,
+        |x| { x << D },
+    )
 }

@@ -11,12 +11,7 @@ use crate::proved::fips204_base::types::{R, R0};
 ///
 /// `gamma1` is 131072 or 524288, `omega` is at least 1, `omega + K` is below 256, and `SIG_LEN` is the length of the
 /// parts: `LAMBDA_DIV4`, 576 (640 at the larger `gamma1`) for each of the `L` polynomials of `z`, and `omega + K`.
-pub fn sig_decode<
-    const K: usize,
-    const L: usize,
-    const LAMBDA_DIV4: usize,
-    const SIG_LEN: usize,
->(
+pub fn sig_decode<const K: usize, const L: usize, const LAMBDA_DIV4: usize, const SIG_LEN: usize>(
     gamma1: i32,
     omega: i32,
     sigma: &[u8; SIG_LEN],
@@ -52,12 +47,7 @@ pub fn write_signature_parts<'a, const K: usize, const L: usize>(
 ///
 /// `gamma1` is 131072 or 524288, `omega` is at least 1, `omega + K` is below 256, and `SIG_LEN` is as for
 /// `sig_decode`.
-pub fn sig_encode<
-    const K: usize,
-    const L: usize,
-    const LAMBDA_DIV4: usize,
-    const SIG_LEN: usize,
->(
+pub fn sig_encode<const K: usize, const L: usize, const LAMBDA_DIV4: usize, const SIG_LEN: usize>(
     gamma1: i32,
     omega: i32,
     c_tilde: &[u8; LAMBDA_DIV4],

@@ -1,9 +1,7 @@
 // Made by tools/erase of crates/fips204_base/src/encodings/vectors.rt. Change that, not this.
 //! Vectors as bytes, one polynomial after another.
 
-use crate::proved::fips204_base::conversion::{
-    field_width, write_packed_by_range, write_unpacked_by_range,
-};
+use crate::proved::fips204_base::conversion::{field_width, write_packed_by_range, write_unpacked_by_range};
 use crate::proved::fips204_base::helpers::is_in_range;
 use crate::proved::fips204_base::types::R;
 

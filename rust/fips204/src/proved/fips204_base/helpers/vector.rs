@@ -8,7 +8,11 @@ use crate::proved::fips204_base::types::{R, T, T0};
 /// The sums of two vectors, polynomial by polynomial and without a reduction, for coefficients of an
 /// absolute value of at most `2^30 - 1` (FIPS 204, Algorithm 46, over whole numbers).
 pub fn add_vector_ntt<const K: usize>(v: &[R; K], w: &[R; K]) -> [R; K] {
-    zip_vectors(v, w, |x, y| x + y)
+    zip_vectors(
+        v,
+        w,
+        |x, y| { x + y },
+    )
 }
 
 /// The Montgomery form of a vector of transforms: each value times `2^32` modulo `q`, below `q` in

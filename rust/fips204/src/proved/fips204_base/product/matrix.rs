@@ -73,11 +73,7 @@ impl Transforms {
 
     /// The same, with room for the rows of `A v`, which are put into the lanes in one pass.
     #[inline(never)]
-    fn multiply_over<const K: usize, const L: usize>(
-        &mut self,
-        a: &[[T; L]; K],
-        rows: &mut [R; K],
-    ) {
+    fn multiply_over<const K: usize, const L: usize>(&mut self, a: &[[T; L]; K], rows: &mut [R; K]) {
         let mut v = [T0; L];
         write_values(&self.values, &mut v);
         for r in 0..K {

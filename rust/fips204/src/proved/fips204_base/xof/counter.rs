@@ -9,6 +9,7 @@ use core::marker::PhantomData;
 pub trait BlockHash<const N: usize>: Sized {
     /// The digest of the concatenated parts; how the input is cut makes no difference.
     fn digest(parts: &[&[u8]]) -> [u8; N];
+
 }
 
 /// A reader of blocks: block `i` is the digest of a seed followed by `i` as four bytes, the lowest first. It

@@ -1,10 +1,10 @@
 // Made by tools/erase of crates/fips204_shake/src/bytes/any_set.rt. Change that, not this.
 //! The calls at a parameter set by its name.
 
-use crate::proved::fips204::xof::Xof;
-use crate::proved::fips204::{Input, SetName};
 use crate::proved::fips204_shake::bytes::calls::{MlDsa44, MlDsa65, MlDsa87};
 use crate::proved::fips204_shake::bytes::refusal::Refusal;
+use crate::proved::fips204::xof::Xof;
+use crate::proved::fips204::{Input, SetName};
 use core::marker::PhantomData;
 
 /// A call of `MlDsa` at the parameter set of a name.

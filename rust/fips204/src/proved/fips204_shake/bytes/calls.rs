@@ -2,15 +2,13 @@
 //! The calls at one parameter set, as a type. A call checks the lengths; the function that it then calls does the work,
 //! outside its frame.
 
+use crate::proved::fips204_shake::bytes::refusal::{Buffer, Refusal};
+use crate::proved::fips204_shake::bytes::slices::array_of;
 use crate::proved::fips204::Input;
 use crate::proved::fips204::sets::{HasSet, KeySizes, Matrix, Set, SignatureSizes};
 use crate::proved::fips204::traits::{SerDes, Signer, Verifier};
-use crate::proved::fips204::types::{
-    KG, PreparedPrivateKey, PreparedPublicKey, PrivateKey, PublicKey,
-};
+use crate::proved::fips204::types::{KG, PreparedPrivateKey, PreparedPublicKey, PrivateKey, PublicKey};
 use crate::proved::fips204::xof::Xof;
-use crate::proved::fips204_shake::bytes::refusal::{Buffer, Refusal};
-use crate::proved::fips204_shake::bytes::slices::array_of;
 use core::marker::PhantomData;
 
 /// ML-DSA (FIPS 204) over bytes at one parameter set: the one whose matrix has `K` rows and `L` columns, over the XOFs `H`

@@ -1,11 +1,11 @@
 // Made by tools/erase of crates/fips204_shake/src/der/keys.rt. Change that, not this.
 //! Keys in DER (RFC 9881).
 
-use crate::proved::fips204::SetName;
 use crate::proved::fips204_shake::der::elements::{
     BIT_STRING, CONTEXT_0, INTEGER, OCTET_STRING, SEQUENCE, element, front, put, whole,
 };
 use crate::proved::fips204_shake::der::fault::DerFault;
+use crate::proved::fips204::SetName;
 
 /// How many bytes a seed has.
 pub const SEED_LENGTH: usize = 32;
@@ -84,11 +84,7 @@ fn public_key_info(der: &[u8]) -> Result<(SetName, &[u8]), DerFault> {
 /// The public key of a file in DER: a SubjectPublicKeyInfo (RFC 9881, section 4).
 ///
 /// Errors: the first fault from its beginning.
-pub fn read_public(der: &[u8]) -> Result<(SetName, &[u8]), DerFault>
-// What is read is what the file has.
-    // The key of a file is read.
-    // Which fault it is.
-{
+pub fn read_public(der: &[u8]) -> Result<(SetName, &[u8]), DerFault> {
     public_key_info(der)
 }
 
@@ -123,11 +119,7 @@ fn asymmetric_key(der: &[u8]) -> Result<(SetName, PrivateKey<'_>), DerFault> {
 /// 9881, section 6). Whether a seed gives the expanded key beside it is not asked.
 ///
 /// Errors: the first fault from its beginning.
-pub fn read_private(der: &[u8]) -> Result<(SetName, PrivateKey<'_>), DerFault>
-// What is read is what the file has.
-    // The key of a file is read.
-    // Which fault it is.
-{
+pub fn read_private(der: &[u8]) -> Result<(SetName, PrivateKey<'_>), DerFault> {
     asymmetric_key(der)
 }
 

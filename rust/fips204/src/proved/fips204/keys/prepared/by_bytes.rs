@@ -14,8 +14,15 @@ use crate::proved::fips204_base::encodings::{pk_encode, sk_encode, write_public_
 use crate::proved::fips204_base::hashing::write_expanded_a;
 use crate::proved::fips204_base::xof::Xof;
 
-impl<S, const K: usize, const L: usize, const PK_LEN: usize, const SK_LEN: usize, H, G: Xof>
-    PublicKey<K, L, H, G>
+impl<
+    S,
+    const K: usize,
+    const L: usize,
+    const PK_LEN: usize,
+    const SK_LEN: usize,
+    H,
+    G: Xof,
+> PublicKey<K, L, H, G>
 where
     Matrix<K, L>: HasSet<Set = S>,
     S: Set<PublicKey = [u8; PK_LEN], PrivateKey = [u8; SK_LEN]> + KeySizes<K, L, PK_LEN, SK_LEN>,
@@ -37,8 +44,15 @@ where
     }
 }
 
-impl<S, const K: usize, const L: usize, const PK_LEN: usize, const SK_LEN: usize, H, G: Xof>
-    PrivateKey<K, L, H, G>
+impl<
+    S,
+    const K: usize,
+    const L: usize,
+    const PK_LEN: usize,
+    const SK_LEN: usize,
+    H,
+    G: Xof,
+> PrivateKey<K, L, H, G>
 where
     Matrix<K, L>: HasSet<Set = S>,
     S: Set<PublicKey = [u8; PK_LEN], PrivateKey = [u8; SK_LEN]> + KeySizes<K, L, PK_LEN, SK_LEN>,

@@ -9,8 +9,14 @@ use crate::proved::fips204_base::encodings::{pk_encode, sk_encode, write_public_
 use crate::proved::fips204_base::product::Transforms;
 use core::marker::PhantomData;
 
-impl<S, const K: usize, const L: usize, const PK_LEN: usize, const SK_LEN: usize, H>
-    PreparedPublicKey<K, L, H>
+impl<
+    S,
+    const K: usize,
+    const L: usize,
+    const PK_LEN: usize,
+    const SK_LEN: usize,
+    H,
+> PreparedPublicKey<K, L, H>
 where
     Matrix<K, L>: HasSet<Set = S>,
     S: Set<PublicKey = [u8; PK_LEN], PrivateKey = [u8; SK_LEN]> + KeySizes<K, L, PK_LEN, SK_LEN>,
@@ -48,8 +54,14 @@ where
     }
 }
 
-impl<S, const K: usize, const L: usize, const PK_LEN: usize, const SK_LEN: usize, H>
-    PreparedPrivateKey<K, L, H>
+impl<
+    S,
+    const K: usize,
+    const L: usize,
+    const PK_LEN: usize,
+    const SK_LEN: usize,
+    H,
+> PreparedPrivateKey<K, L, H>
 where
     Matrix<K, L>: HasSet<Set = S>,
     S: Set<PublicKey = [u8; PK_LEN], PrivateKey = [u8; SK_LEN]> + KeySizes<K, L, PK_LEN, SK_LEN>,
