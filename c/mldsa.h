@@ -76,6 +76,15 @@ extern "C" {
 #define MLDSA_ANSWERS
 #endif
 
+/* For a function of this header. C89 has no inline, but gcc and clang have a word for it there too. */
+#if defined(__cplusplus) || (defined(__STDC_VERSION__) && __STDC_VERSION__ >= 199901L)
+#define MLDSA_INLINE static inline
+#elif defined(__GNUC__)
+#define MLDSA_INLINE static __inline__
+#else
+#define MLDSA_INLINE static
+#endif
+
 /* How many arrays a call reads and how many it then writes, each with its length behind it. */
 #define MLDSA_ARRAYS(read, written) MLDSA_READS_##read MLDSA_WRITES_##written##_BEHIND_##read
 #if defined(__GNUC__) && !defined(__clang__) && __GNUC__ >= 10
@@ -1018,7 +1027,7 @@ MLDSA_ANSWERS MLDSA_ARRAY(write_only, 2, 3)
 uint32_t mldsa_text_of(uint32_t status, uint8_t *text, size_t text_len);
 
 /** The text of a result, or of another number. */
-static inline const char *mldsa_text(uint32_t status)
+MLDSA_INLINE const char *mldsa_text(uint32_t status)
 {
     switch (status) {
     case MLDSA_DONE: return "no error, or the result yes";

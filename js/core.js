@@ -19,6 +19,8 @@ const FRAMES = { public: 22, seed: 22, private: 28, both: 66 };
 /** Of a message in pieces so many bytes are gathered, and so many at most hashed by one call. */
 const GATHERED = 1 << 16;
 const AT_ONCE = 1 << 20;
+/** An instance with more memory takes no further call, because the memory of a module never shrinks. */
+const MOST_MEMORY = 2 * AT_ONCE;
 
 const DONE = 0;
 const NO = 1;
@@ -109,7 +111,7 @@ export const oids = Object.freeze(
     ),
 );
 
-/** The module's memory and calls. Calls run one after the other, and each leaves the memory as it was at first. */
+/** The module's memory and calls. Calls run one after the other, and each wipes the memory. */
 class Library {
     #module;
     #exports;
@@ -149,8 +151,11 @@ class Library {
     call(name, read, written) {
         if (this.#isBroken) {
             new Uint8Array(this.#memory.buffer).fill(0);
-            this.#take(new WebAssembly.Instance(this.#module, {}));
+            this.#drop();
             this.#isBroken = false;
+        }
+        if (this.#exports === undefined) {
+            this.#take(new WebAssembly.Instance(this.#module, {}));
         }
         const lengths = [...read, ...written].map((it) => (typeof it === "number" ? it : it.length));
         const places = [];
@@ -175,7 +180,16 @@ class Library {
             memory.set(this.#constants, this.#begin);
         }
         this.#isBroken = false;
+        if (end > MOST_MEMORY) {
+            this.#drop();
+        }
         return answered;
+    }
+
+    /** Lets go of the instance, and so of its memory. */
+    #drop() {
+        this.#exports = undefined;
+        this.#memory = undefined;
     }
 
     /** Grows the memory until it has so many bytes. */
@@ -185,8 +199,7 @@ class Library {
             try {
                 this.#memory.grow(pages);
             } catch {
-                const how = "messageHasher takes long messages in pieces";
-                throw new RangeError(`the arrays do not fit into the module's memory: ${bytes} bytes; ${how}`);
+                throw new RangeError(`the arrays do not fit into the module's memory: ${bytes} bytes`);
             }
         }
     }
@@ -357,18 +370,37 @@ class MlDsa {
         }
     }
 
+    /** A call and its named arrays or, where they have a long message, the call for its hash `mu` and the arrays of that. */
+    #shortened(name, read) {
+        const { message, context, ...key } = read;
+        if (message === undefined || message.length <= AT_ONCE) {
+            return [name, read];
+        }
+        if (context.length > LONGEST_CONTEXT) {
+            // The library rejects it whatever the message is, and looks at the key first.
+            return [name, { ...key, message: NOTHING, context }];
+        }
+        const begin = key.privateKey === undefined ? "mu_begin" : "mu_begin_private";
+        const hasher = this.#begun(begin, { ...key, context });
+        return [`${name}_mu`, { ...key, mu: hasher.update(message).mu() }];
+    }
+
     /** Signs with arrays that are named. */
     #signed(name, read, random) {
         return this.#withRandom("random", random, (drawn) => {
-            const answered = this.#call(name, [...Object.values(read), drawn], [this.lengths.signature]);
-            return done(answered, read)[0];
+            const [call, given] = this.#shortened(name, read);
+            return done(this.#call(call, [...Object.values(given), drawn], [this.lengths.signature]), given)[0];
         });
     }
 
     /** Whether a signature is accepted. One of another length is not, whatever the rest is. */
     #accepts(name, read, signature) {
-        const given = bytes("signature", signature);
-        return given.length === this.lengths.signature && answer(this.#call(name, [...read, given]));
+        const signed = bytes("signature", signature);
+        if (signed.length !== this.lengths.signature) {
+            return false;
+        }
+        const [call, given] = this.#shortened(name, read);
+        return answer(this.#call(call, [...Object.values(given), signed]));
     }
 
     keygen(seed) {
@@ -376,13 +408,18 @@ class MlDsa {
         return this.#withRandom("seed", seed, (drawn) => {
             const written = [this.lengths.publicKey, this.lengths.privateKey];
             const [publicKey, privateKey] = done(this.#call("keygen", [drawn], written));
-            return { publicKey, privateKey };
+            return seed === undefined ? { publicKey, privateKey, seed: drawn.slice() } : { publicKey, privateKey };
         });
     }
 
     publicKey(privateKey) {
         atMost("publicKey", arguments, 1);
         return done(this.#call("public_key", [this.#fixed("privateKey", privateKey)], [this.lengths.publicKey]))[0];
+    }
+
+    getPublicKey(privateKey) {
+        atMost("getPublicKey", arguments, 1);
+        return this.publicKey(privateKey);
     }
 
     sign(privateKey, message) {
@@ -395,7 +432,8 @@ class MlDsa {
     verify(publicKey, message, signature) {
         const { context = NOTHING } = optionsOf("verify", arguments, 3, "context");
         const key = this.#fixed("publicKey", publicKey);
-        return this.#accepts("verify", [key, bytes("message", message), bytes("context", context)], signature);
+        const read = { publicKey: key, message: bytes("message", message), context: bytes("context", context) };
+        return this.#accepts("verify", read, signature);
     }
 
     hashSign(privateKey, digest, oid) {
@@ -408,8 +446,8 @@ class MlDsa {
     hashVerify(publicKey, digest, oid, signature) {
         const { context = NOTHING } = optionsOf("hashVerify", arguments, 4, "context");
         const key = this.#fixed("publicKey", publicKey);
-        const hash = [bytes("digest", digest), bytes("context", context), bytes("oid", oid)];
-        return this.#accepts("hash_verify", [key, ...hash], signature);
+        const hash = { digest: bytes("digest", digest), context: bytes("context", context), oid: bytes("oid", oid) };
+        return this.#accepts("hash_verify", { publicKey: key, ...hash }, signature);
     }
 
     messageHasher(publicKey) {
@@ -436,7 +474,8 @@ class MlDsa {
 
     verifyMu(publicKey, mu, signature) {
         atMost("verifyMu", arguments, 3);
-        return this.#accepts("verify_mu", [this.#fixed("publicKey", publicKey), this.#fixed("mu", mu)], signature);
+        const read = { publicKey: this.#fixed("publicKey", publicKey), mu: this.#fixed("mu", mu) };
+        return this.#accepts("verify_mu", read, signature);
     }
 
     checkPrivateKey(privateKey) {
@@ -519,13 +558,24 @@ function ofResponse(response) {
     return response.arrayBuffer();
 }
 
-/** The module of what `load` was given: a URL or its text, a response, bytes, or a module. */
+/** The bytes at a place in text: a URL, which may be relative to a page or, where Node has no page, the path of a file. */
+async function bytesAtText(text) {
+    const page = globalThis.location?.href;
+    // (a single letter before the colon is a drive of Windows)
+    if (isNode && page === undefined && !/^[a-z][a-z\d+.-]+:/i.test(text)) {
+        return (await ofNode("fs/promises")).readFile(text);
+    }
+    return bytesAt(new URL(text, page));
+}
+
+/** The module of what `load` was given: a place or its text, a response, bytes, or a module. */
 async function moduleOf(source) {
     if (Object.prototype.toString.call(source) === "[object WebAssembly.Module]") {
         return source;
     }
-    if (typeof source === "string" || typeof source?.href === "string") {
-        return WebAssembly.compile(await bytesAt(new URL(source, globalThis.location?.href)));
+    const place = typeof source === "string" ? source : source?.href;
+    if (typeof place === "string") {
+        return WebAssembly.compile(await bytesAtText(place));
     }
     return WebAssembly.compile(typeof source?.arrayBuffer === "function" ? await ofResponse(source) : source);
 }

@@ -21,13 +21,18 @@ export class KeyFileError extends Error {
     }
 }
 
-/** The file, a text or bytes. Rejects other arguments than what `load` gives, and a file. */
-function checkReading(call, words) {
-    const [sets, given] = words;
+/** Rejects more than two arguments, and other sets than those that `load` gives. */
+function checkSets(call, words) {
     atMost(call, words, 2);
-    if (!NUMBERS.every((it) => sets?.[`mlDsa${it}`]?.name === `ML-DSA-${it}`)) {
+    if (!NUMBERS.every((it) => words[0]?.[`mlDsa${it}`]?.name === `ML-DSA-${it}`)) {
         throw new TypeError("sets is not what load gives: await load()");
     }
+}
+
+/** The file, a text or bytes. Rejects other arguments than what `load` gives, and a file. */
+function checkReading(call, words) {
+    checkSets(call, words);
+    const given = words[1];
     const file = typeof given === "string" ? given : bytesIn(given);
     if (file === undefined) {
         throw new TypeError("file is neither a Uint8Array nor a string");
@@ -98,16 +103,18 @@ function symbolsOf(text, label) {
     return symbols;
 }
 
-/** The bytes of base64, which has one spelling. */
+/** The bytes of base64, which has one spelling; undefined for another text. */
 function decoded(symbols) {
     if (!/^[A-Za-z0-9+/]*={0,2}$/.test(symbols) || symbols.length % 4 !== 0) {
-        refuse(DAMAGED);
+        return undefined;
     }
     const binary = atob(symbols);
-    if (btoa(binary) !== symbols) {
-        refuse(DAMAGED);
-    }
-    return Uint8Array.from(binary, (character) => character.charCodeAt(0));
+    return btoa(binary) === symbols ? Uint8Array.from(binary, (character) => character.charCodeAt(0)) : undefined;
+}
+
+/** Bytes in base64. */
+function encoded(bytes) {
+    return btoa(Array.from(bytes, (byte) => String.fromCharCode(byte)).join(""));
 }
 
 /** Whether bytes begin as the DER of a key does: a sequence, longer than 127 bytes or of all of them. */
@@ -124,13 +131,12 @@ function derOf(file, label) {
         refuse(`it seems to be DER: ${BY_DER[label]} of a set reads it`);
     }
     const text = () => Array.from(file, (byte) => String.fromCharCode(byte)).join("");
-    return decoded(symbolsOf(typeof file === "string" ? file : text(), label));
+    return decoded(symbolsOf(typeof file === "string" ? file : text(), label)) ?? refuse(DAMAGED);
 }
 
 /** The text of DER. */
 function pemOf(der, label) {
-    const symbols = btoa(Array.from(der, (byte) => String.fromCharCode(byte)).join(""));
-    const lines = symbols.match(new RegExp(`.{1,${LINE}}`, "g"));
+    const lines = encoded(der).match(new RegExp(`.{1,${LINE}}`, "g"));
     return [`-----BEGIN ${label}-----`, ...lines, `-----END ${label}-----`, ""].join("\n");
 }
 
@@ -205,5 +211,78 @@ export async function fingerprint(sets, file) {
         throw new Error("there is no crypto.subtle: a page has it over https, from localhost or from a file");
     }
     const digest = new Uint8Array(await subtle.digest("SHA-256", derOf(given, PUBLIC)));
-    return `SHA256:${btoa(String.fromCharCode(...digest)).replace(/=+$/, "")}`;
+    return `SHA256:${encoded(digest).replace(/=+$/, "")}`;
+}
+
+/** The bytes of a member of a JWK: base64url without padding. */
+function memberOf(jwk, name, length) {
+    const text = jwk[name];
+    const isText = typeof text === "string" && /^[\w-]*$/.test(text);
+    const symbols = isText ? text.replace(/-/g, "+").replace(/_/g, "/") : "";
+    const bytes = isText ? decoded(symbols.padEnd(4 * Math.ceil(symbols.length / 4), "=")) : undefined;
+    if (bytes === undefined) {
+        refuse(`its ${name} is not in base64url`);
+    }
+    if (bytes.length !== length) {
+        refuse(`its ${name} has ${bytes.length} bytes, and not ${length}`);
+    }
+    return bytes;
+}
+
+/** The set and the public key of a JWK, whose key is private for `sign`, and public for `verify`. */
+function ofJwk(call, words, use) {
+    const [sets, jwk] = words;
+    checkSets(call, words);
+    if (typeof jwk !== "object" || jwk === null) {
+        throw new TypeError("jwk is not an object: of a text JSON.parse gives one");
+    }
+    const set = NUMBERS.find((it) => jwk.alg === `ML-DSA-${it}`);
+    const [found, wanted] = [jwk.priv !== undefined, use === "sign"].map((it) => (it ? "private" : "public"));
+    const operations = jwk.key_ops ?? [use];
+    const fault =
+        jwk.kty !== "AKP" ? "its kty is not AKP"
+        : set === undefined ? "its alg is not ML-DSA-44, ML-DSA-65 or ML-DSA-87"
+        : found !== wanted ? `it has a ${found} key, and not a ${wanted} key`
+        : (jwk.use ?? "sig") !== "sig" ? "its use is not sig"
+        : !Array.isArray(operations) || !operations.includes(use) ? `its key_ops do not have ${use}`
+        : undefined;
+    if (fault !== undefined) {
+        refuse(fault);
+    }
+    return { set, publicKey: memberOf(jwk, "pub", sets[`mlDsa${set}`].lengths.publicKey) };
+}
+
+/** Reads a public key in a JWK, as WebCrypto exports it. */
+export function readPublicJwk(sets, jwk) {
+    return ofJwk("readPublicJwk", arguments, "verify");
+}
+
+/** Reads a private key in a JWK: its seed, and the pair that the seed generates. */
+export function readPrivateJwk(sets, jwk) {
+    const { set, publicKey } = ofJwk("readPrivateJwk", arguments, "sign");
+    const mlDsa = sets[`mlDsa${set}`];
+    const seed = memberOf(jwk, "priv", mlDsa.lengths.seed);
+    const pair = mlDsa.keygen(seed);
+    return pair.publicKey.every((byte, i) => byte === publicKey[i])
+        ? { set, seed, ...pair }
+        : refuse("its pub is not the public key of its priv");
+}
+
+/** Bytes in base64url without padding. */
+function toMember(bytes) {
+    return encoded(bytes).replace(/\+/g, "-").replace(/\//g, "_").replace(/=+$/, "");
+}
+
+/** The JWK of a public key. */
+export function writePublicJwk(mlDsa, publicKey) {
+    const given = checkWriting("writePublicJwk", arguments, "publicKey");
+    // (which rejects one of another length)
+    mlDsa.publicKeyToDer(given);
+    return { kty: "AKP", alg: mlDsa.name, pub: toMember(given) };
+}
+
+/** The JWK of a private key: of its seed. */
+export function writePrivateJwk(mlDsa, seed) {
+    const given = checkWriting("writePrivateJwk", arguments, "seed");
+    return { ...writePublicJwk(mlDsa, mlDsa.keygen(given).publicKey), priv: toMember(given) };
 }

@@ -19,6 +19,12 @@ export class MlDsaError extends Error {
 }
 
 /**
+ * What calls return: `Uint8Array`, or from TypeScript 5.7 `Uint8Array<ArrayBuffer>`, which is what `crypto.subtle`,
+ * `fetch` and `Blob` accept.
+ */
+export type Bytes = ReturnType<typeof Uint8Array.of>;
+
+/**
  * Tells whether this engine can run the library, that is whether its WebAssembly has what the module needs.
  * @example
  * isSupported(); // true
@@ -34,13 +40,14 @@ export const oids: Readonly<
     Record<
         | "SHA-224" | "SHA-256" | "SHA-384" | "SHA-512" | "SHA-512/224" | "SHA-512/256"
         | "SHA3-224" | "SHA3-256" | "SHA3-384" | "SHA3-512" | "SHAKE128" | "SHAKE256",
-        Uint8Array
+        Bytes
     >
 >;
 
+/** What `keygen` returns; also the seed if it drew one. */
 export interface KeyPair {
-    publicKey: Uint8Array;
-    privateKey: Uint8Array;
+    publicKey: Bytes;
+    privateKey: Bytes;
 }
 
 export interface Context {
@@ -70,16 +77,17 @@ export interface MessageHasher {
      * @example
      * mlDsa65.messageHasher(publicKey).update(message).mu().length; // 64
      */
-    mu(): Uint8Array;
+    mu(): Bytes;
 }
 
 /**
- * A parameter set of FIPS 204. Calls are synchronous, and wipe the module's memory when they end. You wipe the arrays
- * that you pass and those that you get. There are no prepared keys.
+ * A parameter set of FIPS 204. Calls are synchronous. When one ends, the module's memory is wiped, and at most 2 MiB of
+ * it stay, because long messages are passed in pieces. You wipe the arrays that you pass and those that you get. There
+ * are no prepared keys.
  *
  * Each call throws a `TypeError` for an argument that is no `Uint8Array`, for options that are no plain object or have
  * another name, and for too many arguments; an `MlDsaError` with status 2 for an array of a wrong length, but not for a
- * signature to be verified; and a `RangeError` for arrays that do not fit into the module's memory. Other errors stand
+ * signature to be verified; and a `RangeError` if the module's memory can't grow. Other errors stand
  * at the calls. Status 13 (all 814 attempts were rejected) comes with a damaged private key; nobody knows an input that
  * gives 15 (sampling limit reached).
  */
@@ -89,11 +97,14 @@ export interface MlDsa {
     /** The lengths of arrays, in bytes. */
     readonly lengths: Readonly<Record<"seed" | "random" | "mu" | "publicKey" | "privateKey" | "signature", number>>;
     /**
-     * Makes the key pair of a seed of 32 bytes, or of one that `crypto.getRandomValues` draws (Algorithm 1).
+     * Makes the key pair of a seed of 32 bytes (Algorithm 1). If you pass none, `crypto.getRandomValues` draws one, which
+     * is returned too. The seed is all of the key that you have to store.
      * @example
-     * const { publicKey, privateKey } = mlDsa65.keygen();
+     * const { publicKey, privateKey, seed } = mlDsa65.keygen();
+     * mlDsa65.keygen(seed).publicKey; // publicKey
      * @throws `MlDsaError` 15; `Error` if you pass no seed and the engine has no `crypto.getRandomValues`.
      */
+    keygen(): KeyPair & { seed: Bytes };
     keygen(seed?: Uint8Array): KeyPair;
     /**
      * Computes the public key that belongs to a private one.
@@ -101,7 +112,14 @@ export interface MlDsa {
      * mlDsa65.publicKey(privateKey); // publicKey
      * @throws `MlDsaError` 14 if the bytes are no private key, or 15.
      */
-    publicKey(privateKey: Uint8Array): Uint8Array;
+    publicKey(privateKey: Uint8Array): Bytes;
+    /**
+     * Does the same as `publicKey`, under its name in noble.
+     * @example
+     * mlDsa65.getPublicKey(privateKey); // publicKey
+     * @throws `MlDsaError` as with `publicKey`.
+     */
+    getPublicKey(privateKey: Uint8Array): Bytes;
     /**
      * Signs a message (Algorithm 2).
      * @example
@@ -109,7 +127,7 @@ export interface MlDsa {
      * @throws `MlDsaError` 4 if the context has more than 255 bytes, 14 if the bytes are no private key, 13 or 15;
      * `Error` without `random`, as with `keygen` without a seed.
      */
-    sign(privateKey: Uint8Array, message: Uint8Array, options?: Context & Random): Uint8Array;
+    sign(privateKey: Uint8Array, message: Uint8Array, options?: Context & Random): Bytes;
     /**
      * Tells whether the public key accepts the signature of the message under the context (Algorithm 3). It is also
      * false for a signature of another length, and for a context above 255 bytes.
@@ -126,7 +144,7 @@ export interface MlDsa {
      * @throws `MlDsaError` 6 if the context has more than 255 bytes, 7 or 8 if `oid` is empty or not DER, 9 or 10 if
      * the digest is too long or has another length, 14 if the bytes are no private key, 13 or 15; `Error` as with `sign`.
      */
-    hashSign(privateKey: Uint8Array, digest: Uint8Array, oid: Uint8Array, options?: Context & Random): Uint8Array;
+    hashSign(privateKey: Uint8Array, digest: Uint8Array, oid: Uint8Array, options?: Context & Random): Bytes;
     /**
      * Tells whether the public key accepts the signature of the digest under the context (Algorithm 5). It is also false
      * if `hashSign` would throw for the digest, `oid` or the context.
@@ -158,7 +176,7 @@ export interface MlDsa {
      * const signature = mlDsa65.signMu(privateKey, mlDsa65.messageHasherOfPrivate(privateKey).update(message).mu());
      * @throws `MlDsaError` 14 if the bytes are no private key, 13 or 15; `Error` as with `sign`.
      */
-    signMu(privateKey: Uint8Array, mu: Uint8Array, options?: Random): Uint8Array;
+    signMu(privateKey: Uint8Array, mu: Uint8Array, options?: Random): Bytes;
     /**
      * Tells whether the public key accepts the signature of the message that has this `mu`.
      * @example
@@ -194,48 +212,48 @@ export interface MlDsa {
      * @example
      * mlDsa65.publicKeyToDer(publicKey).length; // 1974
      */
-    publicKeyToDer(publicKey: Uint8Array): Uint8Array;
+    publicKeyToDer(publicKey: Uint8Array): Bytes;
     /**
      * Reads a public key in DER.
      * @example
      * mlDsa65.publicKeyFromDer(mlDsa65.publicKeyToDer(publicKey)).length; // 1952
      * @throws `MlDsaError` 18 to 20, 22 or 23 for other bytes, 24 for a key of another set.
      */
-    publicKeyFromDer(der: Uint8Array): Uint8Array;
+    publicKeyFromDer(der: Uint8Array): Bytes;
     /**
      * Writes a private key in DER, as its seed. That is all you have to store.
      * @example
      * mlDsa65.seedToDer(new Uint8Array(32).fill(7)).length; // 54
      */
-    seedToDer(seed: Uint8Array): Uint8Array;
+    seedToDer(seed: Uint8Array): Bytes;
     /**
      * Writes a private key in DER, as its expanded key.
      * @example
      * mlDsa65.privateKeyToDer(privateKey).length; // 4060
      * @throws `MlDsaError` 25 if `isPair` is false for it, or 15.
      */
-    privateKeyToDer(privateKey: Uint8Array): Uint8Array;
+    privateKeyToDer(privateKey: Uint8Array): Bytes;
     /**
      * Writes a private key in DER, as its seed and the expanded key that the seed generates.
      * @example
      * mlDsa65.bothToDer(new Uint8Array(32).fill(7)).length; // 4098
      * @throws `MlDsaError` 15.
      */
-    bothToDer(seed: Uint8Array): Uint8Array;
+    bothToDer(seed: Uint8Array): Bytes;
     /**
      * Reads the expanded key of a private key in DER, in any of the three forms.
      * @example
      * mlDsa65.privateKeyFromDer(mlDsa65.privateKeyToDer(privateKey)).length; // 4032
      * @throws `MlDsaError` 18 to 23 for other bytes, 24 for a key of another set, 25 if its parts don't belong together, 15.
      */
-    privateKeyFromDer(der: Uint8Array): Uint8Array;
+    privateKeyFromDer(der: Uint8Array): Bytes;
     /**
      * Reads the seed of a private key in DER.
      * @example
      * mlDsa65.seedFromDer(mlDsa65.seedToDer(new Uint8Array(32).fill(7)))[31]; // 7
      * @throws `MlDsaError` as with `privateKeyFromDer`, or 26 if it has no seed.
      */
-    seedFromDer(der: Uint8Array): Uint8Array;
+    seedFromDer(der: Uint8Array): Bytes;
 }
 
 /** A compiled module, if the types of WebAssembly are known. */
@@ -243,7 +261,10 @@ export type CompiledModule = typeof globalThis extends { WebAssembly: { Module: 
     ? Module & object
     : object;
 
-/** Where the module is: a URL or the text of an absolute one, what `fetch` returns, the module's bytes, or itself. */
+/**
+ * Where the module is: a URL or its text, which may be relative to a page, or in node the path of a file; what `fetch`
+ * returns; the module's bytes; or itself.
+ */
 export type Source =
     | string
     | { readonly href: string }
@@ -257,8 +278,8 @@ export type Source =
  * file, or has it inside if it is bundled for browsers; `mldsa/inline` has it inside everywhere.
  * @example
  * const { mlDsa44, mlDsa65, mlDsa87 } = await load();
- * @throws `Error` if `isSupported` is false, or the module is not found; `TypeError` for another source, text that is
- * no URL, a second argument, or from `fetch`; `WebAssembly.CompileError` for bytes that are no module, and where a
+ * @throws `Error` if `isSupported` is false, or the module is not found; `TypeError` for another source, in a page text
+ * that is not a URL, a second argument, or from `fetch`; `WebAssembly.CompileError` for bytes that are no module, and where a
  * Content-Security-Policy lacks `'wasm-unsafe-eval'`, which `isSupported` can't see.
  */
 export function load(

@@ -138,22 +138,27 @@ async function sorted(files) {
     return { key: keys[0], signature: signatures[0], message: others.find((it) => it !== signatures[0]) };
 }
 
+/** Ends the answer that is being made, and says why there is none. */
+function refuse(reason) {
+    newest++;
+    show("unknown", "No answer", [reason]);
+}
+
 /** Takes three files that were dropped at once. */
 async function takeThree(library, files) {
     const mine = ++newest;
     let found;
+    let fault = "It is not clear which of the three is the key and which the signature. Put each into its place.";
     try {
         found = await sorted(files);
     } catch (error) {
-        show("unknown", "No answer", [`A file could not be read: ${error.message}.`]);
-        return;
+        fault = `A file could not be read: ${error.message}.`;
     }
     if (mine !== newest) {
         return;
     }
     if (!found) {
-        const unclear = "It is not clear which of the three is the key and which the signature.";
-        show("unknown", "No answer", [`${unclear} Put each into its place.`]);
+        refuse(fault);
         return;
     }
     Object.assign(given, found);
@@ -192,7 +197,7 @@ function start() {
         } else if (files.length === 3) {
             takeThree(library, files);
         } else {
-            show("unknown", "No answer", ["Drop all three files at once, or one onto its place."]);
+            refuse("Drop all three files at once, or one onto its place.");
         }
     });
     update(library);

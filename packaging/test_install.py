@@ -6,6 +6,7 @@ import hashlib
 import os
 import pathlib
 import re
+import shlex
 import shutil
 import subprocess
 import sys
@@ -16,7 +17,7 @@ sys.dont_write_bytecode = True
 sys.path.insert(0, str(pathlib.Path(__file__).resolve().parent.parent / "scripts"))
 
 import testing
-from common import RUST_ARM, TOP, emulator, missing, recorded_rows, rust_for_arm, text
+from common import RUST_ARM, TOP, emulator, missing, recorded_rows, rust_for, text
 
 SHARED = "lib/libmldsa.so.0.2"
 EXAMPLES = {f"share/doc/mldsa/examples/{it.name}" for it in (TOP / "c/examples").glob("*.c")}
@@ -38,6 +39,8 @@ endforeach()
 MLSIGN = """#!/bin/sh
 [ "$*" = "sign --help" ] && echo "  -k, --private <FILE>  the key" && echo "      --deterministic  without random bytes"
 """
+# A target of rustc that no machine has which builds the library for itself.
+OTHER = "wasm32-unknown-unknown"
 # Recorded values of ML-DSA-65, with a context and a message.
 ROW = next(row for row in recorded_rows() if row[0] == "65" and row[3] and row[4] and len(row) == 8)
 
@@ -47,7 +50,11 @@ def wants(*tools):
     return unittest.skipIf(missing(*tools), f"there is no {', '.join(missing(*tools))}")
 
 
-class Install(unittest.TestCase):
+class Installing(unittest.TestCase):
+    """Tests that run make, and install below a folder of their own."""
+
+    top = TOP
+
     def setUp(self):
         room = tempfile.TemporaryDirectory()
         self.addCleanup(room.cleanup)
@@ -61,14 +68,20 @@ class Install(unittest.TestCase):
         self.assertEqual(done.returncode, status, f"{words}\n{done.stdout}")
         return done.stdout
 
-    def make(self, *words, program="", **more):
-        """Runs make at the top, with a program beside the library or none."""
-        return self.runs("make", "-C", TOP, "--no-print-directory", *words, f"built={program}", **more)
+    def make(self, *words, **more):
+        """Runs make at the top."""
+        return self.runs("make", "-C", self.top, "--no-print-directory", *words, **more)
 
     @staticmethod
     def files(top):
         """What is below a folder and no folder itself."""
         return {str(it.relative_to(top)) for it in top.rglob("*") if it.is_symlink() or not it.is_dir()}
+
+
+class Install(Installing):
+    def make(self, *words, program="", **more):
+        """Runs make with a program beside the library, or none."""
+        return super().make(*words, f"mlsign={program}", **more)
 
     def answers(self, *words, **more):
         """A program of c/tests/answers.c has the recorded keys and signature, and its verdict is yes."""
@@ -85,8 +98,7 @@ class Install(unittest.TestCase):
         """What pkg-config says of a library below a folder, which is asked for its version too."""
         place = {"PKG_CONFIG_PATH": f"{prefix}/lib/pkgconfig"}
         self.assertEqual(self.runs("pkg-config", "--modversion", "mldsa", environment=place), "0.2.0\n")
-        said = self.runs("pkg-config", "--cflags", "--libs", *words, "mldsa", environment=place)
-        return [it.replace("\\ ", " ") for it in re.findall(r"(?:\\ |\S)+", said)]
+        return shlex.split(self.runs("pkg-config", "--cflags", "--libs", *words, "mldsa", environment=place))
 
     def test_files(self):
         """what is installed, whatever the umask, and nothing is left when it is taken out; with DESTDIR and without"""
@@ -111,6 +123,29 @@ class Install(unittest.TestCase):
         said = self.make("install", "LIBRARY=none", f"PREFIX={self.prefix}", status=2)
         self.assertIn("`make LIBRARY=none` builds it", said)
         self.assertFalse(self.prefix.exists())
+
+    def test_cut_short(self):
+        """a file that can't be written whole leaves the one that was there"""
+        library = self.prefix / "lib/libmldsa.a"
+        self.make("install", f"PREFIX={self.prefix}")
+        library.write_text("the older one", encoding="utf-8")
+        self.runs("bash", "-c", 'ulimit -f 1000; exec "$@"', "bash", "make", "-C", TOP, "install", "mlsign=",
+                  f"PREFIX={self.prefix}", status=2)
+        self.assertEqual((library.read_bytes()[:20], library.stat().st_mode & 0o777), (b"the older one", 0o644))
+        self.assertEqual(self.files(self.prefix), LIBRARY)
+
+    @wants("cc", "pkg-config")
+    def test_signs(self):
+        """below a folder with signs in its name that sed and the shell read, and libraries outside of the prefix"""
+        prefix = self.room / "a&b|c\\d e"
+        self.make("install", f"PREFIX={prefix}")
+        self.assertEqual(self.files(prefix), LIBRARY)
+        shared = self.compiled("signs", *self.flags(prefix))
+        self.answers(shared, environment={"LD_LIBRARY_PATH": f"{prefix}/lib"})
+        self.make("install", f"PREFIX={self.prefix}", f"LIBDIR={self.room}/lib64")
+        said = (self.room / "lib64/pkgconfig/mldsa.pc").read_text(encoding="utf-8")
+        self.assertIn(f"\nlibdir={self.room}/lib64\n", said)
+        self.assertIn("a folder may have no '", self.make("install", "PREFIX=/it's", status=2))
 
     @wants("cc", "pkg-config", "readelf")
     def test_pkg_config(self):
@@ -164,13 +199,13 @@ class Install(unittest.TestCase):
         self.assertIn("by -DMLDSA_TARGET=", " ".join(cross.stderr.split()))
         self.runs(*words, f"{TARGET}{RUST_ARM}")
         self.runs("cmake", "-S", self.room, "-B", self.room / "built")
-        self.runs("cmake", "--build", self.room / "built")
+        self.runs("cmake", "--build", self.room / "built", environment={"CARGO_BUILD_TARGET": OTHER})
         self.answers(self.room / "built" / f"of_{kind}")
 
     @wants("aarch64-linux-gnu-gcc", "qemu-aarch64", "pkg-config")
     def test_cross(self):
         """for another processor: 64-bit ARM, run by qemu, without this machine's mlsign"""
-        rust = rust_for_arm()
+        rust = rust_for(RUST_ARM)
         if not rust:
             self.skipTest(f"no rustc from 1.88 on has a library for {RUST_ARM}: `rustup target add {RUST_ARM}`")
         for name in ("tests/answers.c", "tests/sets.h"):
@@ -223,5 +258,73 @@ class Install(unittest.TestCase):
         self.assertEqual(said.splitlines(), ["verify", "--private --deterministic", "mlsign"])
 
 
+class Tree(Installing):
+    """Each test has a copy of the files from which cargo builds, in which nothing is built."""
+
+    def setUp(self):
+        super().setUp()
+        self.top = self.room / "tree"
+        for name in ("c", "packaging", "rust", "scripts", "tools", "man", ".cargo"):
+            shutil.copytree(TOP / name, self.top / name, ignore=shutil.ignore_patterns("out", "target"))
+        for name in ("Makefile", "Cargo.toml", "LICENSE", "crates.txt"):
+            shutil.copy(TOP / name, self.top)
+        self.archive = self.top / "out/archive/rust/libmldsa_c.a"
+
+    @wants("cargo", "nm")
+    def test_place(self):
+        """what is built is what is installed, wherever cargo's environment and configuration have it build"""
+        elsewhere, home = self.room / "elsewhere", self.room / "home"
+        home.mkdir()
+        (home / "config.toml").write_text(f'[build]\ntarget = "{OTHER}"\n', encoding="utf-8")
+        # (a build that takes less time)
+        quick = {"CARGO_PROFILE_RELEASE_OPT_LEVEL": "1"}
+        self.make(environment=quick)
+        source = self.top / "rust/capi/src/lib.rs"
+        added = '\n#[unsafe(no_mangle)]\npub extern "C" fn mldsa_added() -> u32 {\n    1\n}\n'
+        source.write_text(source.read_text(encoding="utf-8") + added, encoding="utf-8")
+        said = self.make("install", f"PREFIX={self.prefix}", status=2)
+        self.assertIn("not made here of the sources as they are now: out/archive/rust/libmldsa_c.a", said)
+        given = {"CARGO_TARGET_DIR": str(elsewhere), "CARGO_BUILD_TARGET": OTHER, "CARGO_HOME": str(home)}
+        self.make(environment={**quick, **given})
+        self.assertIn(" T mldsa_added\n", self.runs("nm", self.archive))
+        self.make("install", f"PREFIX={self.prefix}")
+        self.assertFalse(elsewhere.exists())
+
+    def planted(self, name, note=""):
+        """Plants a file, with what scripts/archive would have noted of it, or without."""
+        file = self.top / "out" / name
+        file.parent.mkdir(parents=True, exist_ok=True)
+        file.write_text("planted", encoding="utf-8")
+        if note:
+            file.with_name(f"{file.name}.made").write_text(f"sum {note}\n", encoding="utf-8")
+
+    def test_planted(self):
+        """a library or a program that this tree did not make is not installed"""
+        words, right = ("install", f"PREFIX={self.prefix}"), hashlib.sha256(b"planted").hexdigest()
+        for note in ("", "0" * 64):
+            self.planted("archive/rust/libmldsa_c.a", note)
+            said = self.make(*words, status=2)
+            self.assertIn("not made here of the sources as they are now: out/archive/rust/libmldsa_c.a", said)
+        self.planted("archive/rust/libmldsa_c.a", right)
+        self.planted("archive/rust/libmldsa.so")
+        self.assertIn("out/archive/rust/libmldsa.so", self.make(*words, status=2))
+        self.planted("archive/rust/libmldsa.so", right)
+        self.planted("archive/mlsign/mlsign")
+        self.assertIn("`make program` builds it", self.make(*words, status=2))
+        self.assertFalse(self.prefix.exists())
+        self.make(*words, "mlsign=")
+        self.assertEqual(self.files(self.prefix), LIBRARY)
+        self.planted("cargo/release/mlsign")
+        shutil.rmtree(self.top / "out/archive/mlsign")
+        self.make(*words)
+        self.assertEqual(self.files(self.prefix), LIBRARY)
+        self.planted("archive/mlsign/mlsign", right)
+        self.make(*words)
+        self.assertEqual(self.files(self.prefix) - {"share/man/man1/mlsign.1"}, LIBRARY | PROGRAM)
+        os.utime(self.top / "rust/mlsign/src/main.rs")
+        self.assertIn("not made here of the sources as they are now: out/archive/mlsign/mlsign",
+                      self.make(*words, status=2))
+
+
 if __name__ == "__main__":
-    sys.exit(1 if testing.run(Install) else 0)
+    sys.exit(1 if testing.run(Install, Tree) else 0)

@@ -1,6 +1,6 @@
 #!/usr/bin/env python3
-"""Tests of what scripts/release and scripts/archive reject, in a clone of this repository and without the kit: a
-command of its name stands for it. And of how the files of a release are checked."""
+"""Tests of what scripts/release, scripts/archive and scripts/gate reject, in a clone of this repository and without the
+kit: a command of its name stands for it. And of how the files of a release are checked."""
 import base64
 import contextlib
 import hashlib
@@ -16,12 +16,14 @@ import sys
 import tempfile
 import unittest
 import zipfile
+from unittest import mock
 
 TOP = pathlib.Path(__file__).resolve().parent.parent
 sys.dont_write_bytecode = True
 sys.path.insert(0, str(TOP / "scripts"))
 
-from common import missing, packer
+import registry
+from common import MANIFESTS, missing, packer
 
 loader = importlib.machinery.SourceFileLoader("release", str(TOP / "scripts/release"))
 release = importlib.util.module_from_spec(importlib.util.spec_from_loader("release", loader))
@@ -33,7 +35,7 @@ exit 1
 """
 
 
-class Refusals(unittest.TestCase):
+class InClone(unittest.TestCase):
     """Each test has a clone in which nothing is built."""
 
     def setUp(self):
@@ -42,8 +44,9 @@ class Refusals(unittest.TestCase):
         self.clone, self.tools = pathlib.Path(room.name) / "clone", pathlib.Path(room.name) / "tools"
         self.command("git", "clone", "-q", TOP, self.clone, cwd=TOP)
         # What is not committed yet is tested too.
-        for name in ("scripts/release", "scripts/archive", "scripts/common.py", "packaging/PUBLISHER",
-                     "packaging/tries.py", "packaging/PROVENANCE", "python/setup.py"):
+        for name in ("scripts/release", "scripts/archive", "scripts/common.py", "scripts/gate", "scripts/pages",
+                     "scripts/steps.mk", "scripts/tools", "packaging/PUBLISHER", "packaging/tries.py",
+                     "packaging/PROVENANCE", "python/setup.py", *MANIFESTS):
             (self.clone / name).write_bytes((TOP / name).read_bytes())
         self.tools.mkdir()
         # (what a release wants beside the kit, and is not here, is never run)
@@ -62,6 +65,8 @@ class Refusals(unittest.TestCase):
         self.command("git", "add", "-A")
         self.command("git", "-c", "user.name=A", "-c", "user.email=a@a.example", "commit", "-qm", "As it is here")
 
+
+class Refusals(InClone):
     def fill_in(self, *names):
         """What a publisher does."""
         file = self.clone / "packaging/PUBLISHER"
@@ -160,6 +165,22 @@ class Refusals(unittest.TestCase):
             found = re.findall("^Project-URL: (\\w+), a@a.example$", packed.read(name).decode(), re.M)
         self.assertEqual(sorted(found), ["homepage", "repository"])
 
+    @unittest.skipIf(missing("cargo"), "there is no cargo: what it says of a manifest that is filled in")
+    def test_crate(self):
+        """cargo packs the crate without a warning if its addresses are filled in, which a release asks for."""
+        asked = "rust/fips204/Cargo.toml has other addresses than packaging/PUBLISHER: scripts/pages --write"
+        pack = ["cargo", "package", "--no-verify", "--allow-dirty", "--exclude-lockfile", *registry.cargo_words(),
+                "-p", "corkaife-fips204"]
+        self.assertNotIn(asked, self.command("scripts/release")[1])
+        self.assertIn("warning: manifest has no", self.command(*pack)[1])
+        self.fill_in("homepage", "repository")
+        self.assertIn(asked, self.command("scripts/release")[1])
+        self.command("scripts/pages", "--write", "numbers")
+        self.commit()
+        self.assertNotIn(asked, self.command("scripts/release")[1])
+        status, said = self.command(*pack)
+        self.assertEqual((status, re.findall("warning: manifest.*", said)), (0, []), said)
+
     def test_of_a_new_clone(self):
         self.fill_in("homepage", "repository", "contact", "flaws", "fingerprint")
         self.planted()
@@ -190,6 +211,86 @@ class Refusals(unittest.TestCase):
             note.write_text(text, encoding="utf-8")
             status, said = self.command("scripts/archive", "x86-64-v2")
             self.assertEqual((status == 0, "rt was asked" not in said), (is_taken, is_taken), said)
+
+
+# What runs in the place of a tool, and what make and the scripts call.
+STUB, CALLED = "#!/bin/sh\nexit 0\n", ("sh", "env", "make", "python3", "nice", "sed", "uname", "true", "echo")
+
+
+class Gate(InClone):
+    """Tests in a clone, with a folder of tools in which only those are that a test puts there."""
+
+    def setUp(self):
+        super().setUp()
+        self.alone = self.tools / "alone"
+        self.alone.mkdir()
+        for name in CALLED:
+            (self.alone / name).symlink_to(shutil.which(name))
+
+    def tool(self, name, script=STUB):
+        """Puts a tool there."""
+        (self.alone / name).write_text(script, encoding="utf-8")
+        (self.alone / name).chmod(0o755)
+
+    def ran(self, *words):
+        """How a command of the clone ended, with those tools alone."""
+        done = subprocess.run(words, cwd=self.clone, env={"PATH": str(self.alone)}, text=True, check=False,
+                              stdout=subprocess.PIPE, stderr=subprocess.STDOUT)
+        return done.returncode, done.stdout
+
+    def test_bridge(self):
+        """`make check` fails where a tool for a step of the bridge is missing, which `make test` leaves out"""
+        file = self.clone / "scripts/steps.mk"
+        steps = file.read_text(encoding="utf-8")
+        # Few steps, with commands that pass, of which those of the bridge want a tool.
+        for pattern, written in ((r"^TEST = (?:.*\\\n)*.*$", "TEST = tools erased tokens erasing"),
+                                 (r"^CHECK = (?:.*\\\n)*.*$", "CHECK = proof"), (r" -- .*$", " -- true"),
+                                 (r"^BRIDGE = .*$", "BRIDGE = erased tokens erasing"),
+                                 (r"^(erased|tokens|erasing): .*$", r"\1: ; $(step) a-tool -- true")):
+            steps, count = re.subn(pattern, written, steps, flags=re.M)
+            self.assertTrue(count, pattern)
+        file.write_text(steps, encoding="utf-8")
+        status, said = self.ran("make", "test")
+        self.assertEqual((status, said.splitlines()[-1]), (0, "1 passed, 0 failed"), said)
+        self.assertIn("erased: NOT RUN, missing: a-tool\n", said)
+        status, said = self.ran("make", "check")
+        self.assertIn("failed, because `make check` has to run them: erased, tokens, erasing\n", said)
+        self.assertIn("\n2 passed, 3 failed\n", said)
+        self.assertNotEqual(status, 0)
+        self.tool("a-tool")
+        status, said = self.ran("make", "check")
+        self.assertEqual((status, said.splitlines()[-1]), (0, "5 passed, 0 failed"), said)
+
+    def test_rustfmt(self):
+        """The rustfmt of Debian's cargo is asked of Debian, and that of rustup's cargo is not"""
+        self.tool("cargo")
+        for owner, wanted in (("cargo-web", "apt-get install rustfmt-web"), ("cargo", "apt-get install rustfmt"),
+                              ("", "rustup has it, or Debian's rustfmt-web")):
+            self.tool("dpkg", f"#!/bin/sh\necho '{owner}: /usr/bin/cargo'\n" if owner else "#!/bin/sh\nexit 1\n")
+            self.assertIn(f"there is no rustfmt ({wanted}), ", self.ran("scripts/tools", "--look")[1])
+
+
+class OfDebian(unittest.TestCase):
+    def test_folder(self):
+        """Debian's packages are built in a folder of their own, also where somebody has its old name"""
+        room = tempfile.TemporaryDirectory()
+        self.addCleanup(room.cleanup)
+        tools, shared, out = (pathlib.Path(room.name) / name for name in ("tools", "tmp", "out"))
+        for folder in (tools, shared, out):
+            folder.mkdir()
+        facts = release.Facts()
+        (shared / f"mldsa-debian-{facts.commit[:12]}").mkdir()
+        stub = tools / "dpkg-buildpackage"
+        stub.write_text("#!/bin/sh\npwd > ../where.deb\n", encoding="utf-8")
+        stub.chmod(0o755)
+        (tools / "name").mkdir()
+        release.command("tar", "-czf", out / "name.tar.gz", "-C", tools, "name")
+        path, before = f"{tools}:{os.environ['PATH']}", sorted(shared.iterdir())
+        with mock.patch.dict(os.environ, PATH=path), mock.patch.object(tempfile, "tempdir", str(shared)):
+            for _ in range(2):
+                release.of_debian(out, "name")
+        self.assertEqual(pathlib.Path((out / "where.deb").read_text(encoding="utf-8")).parts[:-2], shared.parts)
+        self.assertEqual(sorted(shared.iterdir()), before)
 
 
 def openssl(*words, **more):

@@ -7,6 +7,7 @@ import re
 import shutil
 import sys
 
+import setuptools
 from setuptools import Distribution, setup
 from setuptools.command.build_py import build_py
 from setuptools.command.sdist import sdist
@@ -26,7 +27,11 @@ import exports
 VERSION = re.search(r'^#define MLDSA_VERSION_TEXT "(.*)"$', exports.HEADER, re.M)[1]
 PUBLISHER = (TOP / "packaging/PUBLISHER").read_text(encoding="utf-8")
 LIBRARY = os.environ.get("MLDSA_LIBRARY")
-RUST = RustExtension("mldsa.libmldsa", "../rust/capi/Cargo.toml", binding=Binding.NoBinding, py_limited_api=True)
+# What setuptools calls an SPDX expression.
+LICENCE = "license_expression" if int(setuptools.__version__.split(".")[0]) >= 77 else "license"
+# (an editable install would build it without optimizing)
+RUST = RustExtension("mldsa.libmldsa", "../rust/capi/Cargo.toml", binding=Binding.NoBinding, py_limited_api=True,
+                     debug=False)
 INTERFACE = '''"""What c/mldsa.h says: setup.py writes this file."""
 from typing import Dict, Tuple
 
@@ -71,11 +76,11 @@ def interface():
 
 
 class Modules(build_py):
-    """Adds the interface, and the library where it is given."""
+    """Adds the interface, and the library where it is given: for an editable install to the sources."""
 
     def run(self):
         super().run()
-        folder = pathlib.Path(self.build_lib, "mldsa")
+        folder = TOP / "python/mldsa" if self.editable_mode else pathlib.Path(self.build_lib, "mldsa")
         (folder / "_interface.py").write_text(interface(), encoding="utf-8")
         if LIBRARY:
             shutil.copy(LIBRARY, folder / "libmldsa.abi3.so")
@@ -106,6 +111,7 @@ class Sources(sdist):
 setup(
     distclass=Package,
     version=VERSION,
+    **{LICENCE: "MIT OR Apache-2.0"},
     # Who publishes it, if that is said.
     project_urls=dict(re.findall(r"^(homepage|repository): *(\S+)$", PUBLISHER, re.M)),
     rust_extensions=[] if LIBRARY else [RUST],

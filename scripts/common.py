@@ -18,6 +18,11 @@ LENGTHS = {"44": (1312, 2560, 2420), "65": (1952, 4032, 3309), "87": (2592, 4896
 NATIVE = "aarch64" if platform.machine() in ("aarch64", "arm64") else "x86-64"
 # Rust's name for 64-bit ARM with Linux.
 RUST_ARM = "aarch64-unknown-linux-gnu"
+# Manifests of cargo that name the project's page and its repository.
+MANIFESTS = ("rust/fips204/Cargo.toml", "rust/mlsign/Cargo.toml", "rust/capi/Cargo.toml")
+# The processors that qemu emulates here, each with the loader of its programs.
+LOADERS = {"aarch64": "/lib/ld-linux-aarch64.so.1", "i686": "/lib/ld-linux.so.2", "s390x": "/lib/ld64.so.1",
+           "x86_64": "/lib64/ld-linux-x86-64.so.2"}
 # What C2SP publishes (CCTV, "accumulated"): the SHAKE128 of 100 public keys and signatures of each set. The seeds are
 # the output of SHAKE128 for no message; each key signs the empty message under the empty context with 32 bytes 00.
 ACCUMULATED = {
@@ -30,6 +35,19 @@ ACCUMULATED = {
 def text(name):
     """A file of the repository."""
     return (TOP / name).read_text(encoding="utf-8")
+
+
+def publisher():
+    """What packaging/PUBLISHER says, by its names."""
+    return dict(re.findall(r"^(\w+): *(.*?) *$", text("packaging/PUBLISHER"), re.M))
+
+
+def addressed(manifest):
+    """A manifest of cargo with the addresses of packaging/PUBLISHER, in the fields that it has for them."""
+    said = publisher()
+    said["documentation"] = said["homepage"] and "https://docs.rs/corkaife-fips204"
+    return re.sub('^(homepage|repository|documentation) = ".*"$', lambda field: f'{field[1]} = "{said[field[1]]}"',
+                  text(manifest), flags=re.M)
 
 
 def command(*words, stderr=subprocess.STDOUT, **more):
@@ -55,15 +73,28 @@ def missing(*tools, path=None):
     return [tool for tool in tools if not shutil.which(tool, path=path)]
 
 
-def rust_for_arm():
-    """The first folder of PATH with a cargo and a rustc from 1.88 on that has Rust's std for 64-bit ARM, or none."""
+def cargo_place(folder, target=None):
+    """The words that tell cargo where to build and for which target, by default this machine, because its environment
+    and a user's configuration may say otherwise; and the folder in which cargo leaves what it built."""
+    host = re.search(r"^host: (.*)$", printed("rustc", "-vV"), re.M)
+    target = target or (host[1] if host else sys.exit("there is no rustc, which has to come with cargo"))
+    return ["--target-dir", str(folder), "--target", target], pathlib.Path(folder, target)
+
+
+def rusts():
+    """The folders of PATH with a cargo and a rustc of 1.88 or later."""
     for folder in os.environ["PATH"].split(os.pathsep):
         version = re.match(r"rustc 1\.(\d+)", printed(f"{folder}/rustc", "--version"))
-        if missing("cargo", "rustc", path=folder) or not version or int(version[1]) < 88:
-            continue
+        if not missing("cargo", "rustc", path=folder) and version and int(version[1]) >= 88:
+            yield folder
+
+
+def rust_for(target):
+    """The first folder of PATH with a cargo and a rustc that has Rust's standard library for a target, or none."""
+    for folder in rusts():
         # (a library of another version may lie there: only compiling tells)
         with tempfile.TemporaryDirectory() as room:
-            words = [f"{folder}/rustc", "--target", RUST_ARM, "--crate-type", "lib", "--emit", "metadata", "-"]
+            words = [f"{folder}/rustc", "--target", target, "--crate-type", "lib", "--emit", "metadata", "-"]
             if not subprocess.run(words, cwd=room, input=b"", capture_output=True, check=False).returncode:
                 return folder
     return None
@@ -77,13 +108,12 @@ def need(names, what=""):
 
 def emulator(processor):
     """The words before a program for another kind of processor than this machine's; none before one for its own."""
-    arm = processor == "aarch64"
-    if arm == (NATIVE == "aarch64"):
+    kind = processor if processor in LOADERS else "x86_64"
+    if kind == NATIVE.replace("-", "_"):
         return []
     # Debian has the C library of the other kind in one of two places; a loader and a library of both do not fit.
-    loader = "/lib/ld-linux-aarch64.so.1" if arm else "/lib64/ld-linux-x86-64.so.2"
-    kind = "aarch64" if arm else "x86_64"
-    return [f"qemu-{kind}", *([] if os.path.exists(loader) else ["-L", f"/usr/{kind}-linux-gnu"])]
+    own = [] if os.path.exists(LOADERS[kind]) else ["-L", f"/usr/{kind}-linux-gnu"]
+    return [f"qemu-{'i386' if kind == 'i686' else kind}", *own]
 
 
 def archives(*processors):

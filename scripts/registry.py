@@ -1,9 +1,9 @@
 #!/usr/bin/env python3
-"""Which words cargo needs so that it finds the crates that the Rust packages stand on: none where it has them, or may
-fetch them, and else those that have it take Debian's packages, which root installs here. Of what Debian lacks, which is
-signature 2 in Debian 12, rust/signature has the place.
+"""Prints the words by which cargo finds the crates that the Rust packages depend on: none where cargo has them or can
+fetch them, and otherwise those by which it reads Debian's packages, which root installs here. Where Debian lacks it,
+rust/signature replaces signature 2, and rust/absent the crates that only features for newer ones name.
 
-    scripts/registry.py     prints the words, one a line, and on standard error where the crates are taken from
+    cargo COMMAND $(scripts/registry.py)    one word a line, and on standard error where the crates come from
 """
 import functools
 import os
@@ -14,60 +14,74 @@ import sys
 
 TOP = pathlib.Path(__file__).resolve().parent.parent
 REGISTRY = pathlib.Path("/usr/share/cargo/registry")
-CRATES = {"rand_core-0.6": "rand-core", "zeroize-1": "zeroize", "getrandom-0.2": "getrandom", "sha2-0.10": "sha2",
-          "base64-0.13": "base64", "hex-0.4": "hex", "rand_chacha-0.3": "rand-chacha", "thiserror-1": "thiserror",
-          "clap-4": "clap", "either-1": "either"}
+# Each release of Debian has these versions, under these names. (getrandom is the one that rand_core 0.6 uses there.)
+CRATES = ("clap-4", "data-encoding-2", "either-1", "getrandom-0", "hex-0.4", "rand_chacha-0.3", "rand_core-0.6",
+          "sha2-0.10", "thiserror-1", "zeroize-1")
+# What replaces a crate that Debian's registry lacks and a feature of the package names: that of signature 2 has its
+# traits, and the others are empty.
+STAND_INS = {"signature": ("signature-2", "rust/signature"), "signature_3": ("signature-3", "rust/absent/signature"),
+             "pkcs8": ("pkcs8-0.11", "rust/absent/pkcs8"),
+             "rand_core_0_10": ("rand_core-0.10", "rust/absent/rand_core")}
 
 
 def lacking():
     """The crates that Debian's registry here lacks."""
-    return [name for crate, name in CRATES.items() if not any(REGISTRY.glob(f"{crate}.*"))]
+    return [crate for crate in CRATES if not any(REGISTRY.glob(f"{crate}.*"))]
 
 
-def packages(names):
+def packages(crates):
     """The packages of Debian that have crates."""
-    return [f"librust-{name}-dev" for name in names]
+    return [f"librust-{crate.replace('_', '-')}-dev" for crate in crates]
 
 
-def resolves(workspace, *words):
-    """Whether cargo finds every crate of a workspace."""
+def fault(workspace, *words):
+    """Why cargo does not find every crate of a workspace, or nothing where it does."""
     given = {**os.environ, "CARGO_NET_RETRY": "0", "CARGO_HTTP_TIMEOUT": "10"}
     command = ["cargo", *words, "metadata", "--format-version", "1", "--quiet"]
-    return subprocess.run(command, cwd=workspace, env=given, capture_output=True, check=False).returncode == 0
+    done = subprocess.run(command, cwd=workspace, env=given, capture_output=True, text=True, check=False)
+    return (done.stderr.strip() or "cargo fails") if done.returncode else ""
 
 
-def install(names):
-    """Has Debian install crates."""
-    print(f"cargo has no registry: installs {' '.join(packages(names))}", file=sys.stderr, flush=True)
-    words = ["apt-get", "-o", "DPkg::Lock::Timeout=300", "-q"]
-    for command in (["update"], ["install", "-y", "--no-install-recommends", "--no-remove", *packages(names)]):
-        done = subprocess.run([*words, *command], env={**os.environ, "DEBIAN_FRONTEND": "noninteractive"},
-                              stdout=subprocess.DEVNULL, stderr=subprocess.PIPE, text=True, check=False)
-        if done.returncode:
-            print(f"apt-get {command[0]}: {done.stderr.strip()[-300:]}", file=sys.stderr)
+def apt_get(*words):
+    """Runs apt-get, and gives what it says where it fails."""
+    done = subprocess.run(["apt-get", "-o", "DPkg::Lock::Timeout=300", "-q", *words], check=False, text=True,
+                          env={**os.environ, "DEBIAN_FRONTEND": "noninteractive"}, stdout=subprocess.DEVNULL,
+                          stderr=subprocess.PIPE)
+    return done.stderr.strip()[-300:] if done.returncode else ""
+
+
+def install(crates):
+    """Has Debian install crates, and signature 2 too where it has that."""
+    print(f"cargo has no registry: installs {' '.join(packages(crates))}", file=sys.stderr, flush=True)
+    words = ["install", "-y", "--no-install-recommends", "--no-remove"]
+    apt_get("update")
+    if apt_get(*words, *packages([*crates, "signature-2"])) and (said := apt_get(*words, *packages(crates))):
+        print(f"apt-get install: {said}", file=sys.stderr)
 
 
 def words_of_debian(workspace):
-    """The words by which cargo takes Debian's crates, if it finds each that a workspace names."""
+    """The words by which cargo takes Debian's crates."""
     words = ["--offline", "--config", 'source.crates-io.replace-with="debian"',
              "--config", f'source.debian.directory="{REGISTRY}"']
-    if workspace == TOP and not any(REGISTRY.glob("signature-2.*")):
-        words += ["--config", f'patch.crates-io.signature.path="{TOP}/rust/signature"']
-    return words if REGISTRY.is_dir() and resolves(workspace, *words) else []
+    for name, (crate, place) in STAND_INS.items() if workspace == TOP else ():
+        if not any(REGISTRY.glob(f"{crate}.*")):
+            words += ["--config", f'patch.crates-io.{name}.path="{TOP}/{place}"',
+                      "--config", f'patch.crates-io.{name}.package="{crate.partition("-")[0]}"']
+    return words
 
 
 @functools.cache
 def cargo_words(workspace=TOP):
     """The words for a workspace, or none where nothing helps."""
-    if resolves(workspace):
+    if not fault(workspace):
         return ()
     words = words_of_debian(workspace)
-    if not words and (absent := lacking()) and os.geteuid() == 0:
-        install(absent)
+    if fault(workspace, *words) and lacking() and os.geteuid() == 0:
+        install(lacking())
         words = words_of_debian(workspace)
-    if not words:
-        print("cargo has no registry, and Debian's crates are not all there: apt-get install "
-              f"{' '.join(packages(CRATES.values()))}", file=sys.stderr)
+    if said := fault(workspace, *words):
+        needed = f"apt-get install {' '.join(packages(lacking()))}" if lacking() else said
+        print(f"cargo has no registry, and Debian's packages lack a crate: {needed}", file=sys.stderr)
         return ()
     print(f"cargo has no registry: it takes Debian's packages in {REGISTRY}, and {workspace}/Cargo.lock names "
           "these; delete that file before cargo takes crates from elsewhere", file=sys.stderr)
@@ -76,7 +90,8 @@ def cargo_words(workspace=TOP):
 
 def home(folder):
     """Makes a home of cargo's, which has Debian's crates where there is no registry, and gives its folder."""
-    shutil.copytree(TOP / "rust/signature", folder / "signature")
+    for _, place in STAND_INS.values():
+        shutil.copytree(TOP / place, folder / pathlib.Path(place).relative_to("rust"))
     words = "".join(f"{word}\n" for word in cargo_words() if "=" in word)
     (folder / "config.toml").write_text(words.replace(f"{TOP}/rust", str(folder)), encoding="utf-8")
     return folder

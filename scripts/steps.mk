@@ -6,16 +6,21 @@ python = flock out/python.lock
 
 # Without the kit, over what cargo builds: what others wait for, and then the longest first.
 TEST = tools library definitions rust rust-others programs mlsign-rust lint fuzzers c-gcc c-clang c-sanitized js erasing python \
-	vectors-wasm vectors-rust vectors-c vectors-mlsign refusals pages typed js-page erased tokens sets installs
+	vectors-wasm vectors-rust vectors-c vectors-mlsign alike refusals pages typed js-page erased tokens tokens-tested sets \
+	installs
 # With the kit: `rt ci`, and what is native, over what it left.
 CHECK = proof tools-check archives secrets ledger mlsign growths native-c native-c-v3 native-c-aarch64 native-c-musl \
 	native-c-clang native-c-sanitized native-c-valgrind native-python native-vectors-v2 native-vectors-v3 \
-	native-vectors-aarch64 native-vectors-mlsign native-fuzzers rust-aarch64 c-valgrind secrets-rust module examples packages
-.PHONY: $(TEST) $(CHECK) list-test list-check
+	native-vectors-aarch64 native-vectors-mlsign native-alike native-fuzzers rust-aarch64 rust-i686 rust-s390x c-valgrind \
+	secrets-rust module examples packages
+# Without these nothing shows that the Rust is what was proved: `make check` fails where one of them is not run.
+BRIDGE = erased erasing tokens tokens-tested alike native-alike
+.PHONY: $(TEST) $(CHECK) list-test list-check list-bridge
 
 list-test: ; @echo $(TEST)
 # (the proof is the longest, and most others wait for it)
 list-check: ; @echo $(CHECK) $(TEST)
+list-bridge: ; @echo $(BRIDGE)
 
 tools: ; $(step) -- scripts/tools
 definitions: ; $(step) -- tools/definitions/run --short
@@ -24,9 +29,10 @@ pages: ; $(step) -- scripts/pages
 typed: library programs mlsign-rust ; $(step) cargo cc -- $(python) tests/pages
 installs: library ; $(step) cc make -- packaging/test_install.py
 tokens: ; $(step) -- tools/tokens
+tokens-tested: ; $(step) -- tools/test_tokens.py
 sets: ; $(step) -- tools/sets --check
-erased: tools ; $(step) cargo rustfmt -- tools/erase --check
-erasing: tools ; $(step) cargo rustfmt -- tools/test_erase.py
+erased: ; $(step) -- tools/erase --check
+erasing: ; $(step) -- tools/test_erase.py
 programs: tools ; $(step) cargo -- scripts/programs test
 rust: tools ; $(step) cargo -- rust/test --own
 rust-others: tools ; $(step) cargo -- rust/test --others
@@ -34,11 +40,12 @@ library: tools ; $(step) cargo -- scripts/archive rust
 c-gcc: library ; $(step) gcc g++ nm -- c/test --processor rust
 c-clang: library ; $(step) clang clang++ nm -- env CC=clang CXX=clang++ c/test --processor rust
 c-sanitized: library ; $(step) gcc -- c/test --processor rust --sanitize
+alike: library ; $(step) gcc nm objcopy -- c/test --alike --processor rust
 fuzzers: tools ; $(step) cargo clang -- c/fuzz/run
 c-valgrind: library ; $(step) gcc valgrind -- c/test --processor rust --valgrind
 vectors-c: library ; $(step) gcc -- vectors/run c rust --changes
 mlsign-rust: tools ; $(step) cargo cc -- tests/mlsign/run --rust
-vectors-mlsign: mlsign-rust ; $(step) -- vectors/run mlsign out/cargo/release/mlsign
+vectors-mlsign: mlsign-rust ; $(step) -- vectors/run mlsign out/archive/mlsign/mlsign
 vectors-rust: tools ; $(step) cargo -- vectors/run rust
 vectors-wasm: tools ; $(step) node -- vectors/run wasm
 js: tools ; $(step) node -- js/test --package
@@ -64,10 +71,15 @@ native-python: archives ; $(step) gcc -- $(python) python/test --processor x86-6
 native-vectors-v2: archives ; $(step) gcc -- vectors/run c x86-64-v2
 native-vectors-v3: archives ; $(step) gcc -- vectors/run c x86-64-v3
 native-vectors-aarch64: archives ; $(step) aarch64-linux-gnu-gcc qemu-aarch64 -- vectors/run c aarch64
+# (what the kit compiles, and what cargo does: equal results and bytes)
+native-alike: archives alike ; $(step) gcc nm objcopy -- c/test --alike --processor x86-64-v2 x86-64-v3 rust
 native-fuzzers: archives fuzzers ; $(step) clang -- c/fuzz/run --native
 native-vectors-mlsign: proof ; $(step) -- vectors/run mlsign
 growths: proof ; $(step) cc -- tools/refused-growths --programs 44
 rust-aarch64: tools-check ; $(step) cargo -- rust/test --processor aarch64
+# (32 bits, and big-endian)
+rust-i686: tools-check ; $(step) cargo -- rust/test --processor i686
+rust-s390x: tools-check ; $(step) cargo -- rust/test --processor s390x
 secrets: archives ; $(step) gcc valgrind -- bench/secrets/run
 secrets-rust: library ; $(step) gcc valgrind -- bench/secrets/run --rust
 ledger: archives ; $(step) gcc readelf -- $(python) examples/ledger/test

@@ -75,6 +75,11 @@ def blocks(page, heading):
     return [re.findall(r"^ {4}(.*)$", block, re.M) for block in re.findall(r"(?:^ {4}.*\n)+", said, re.M)]
 
 
+def fenced(page, language):
+    """The first block of a language on a page."""
+    return re.search(rf"^(```|~~~){language}\n(.*?)^\1$", page, re.M | re.S)[2]
+
+
 def ran(words, stderr=subprocess.PIPE, **more):
     """A program that has ended: its status and what it printed."""
     return subprocess.run([str(word) for word in words], stdout=subprocess.PIPE, stderr=stderr, text=True, timeout=1800,

@@ -22,7 +22,7 @@ from mldsa import InvalidSignature, PreparedPublicKey, PrivateKey, load_der_publ
 # How many prepared keys, of 60 kB at most, a worker keeps.
 _KEPT = 1024
 _preparing = threading.Lock()
-# For how many seconds a ledger is waited for that a writer has.
+# For how many seconds a program waits for a ledger that another one has locked.
 _PATIENCE = 30
 
 
@@ -39,19 +39,34 @@ def _opened(path: str, flags: int) -> int:
     return file
 
 
+def _lock(file: int, path: str, kind: int) -> None:
+    """Locks a ledger for writing or reading. Any program that can read it may hold a lock, so the wait has an end."""
+    patience, pause = time.monotonic() + _PATIENCE, 0.001
+    while True:
+        try:
+            fcntl.flock(file, kind | fcntl.LOCK_NB)
+            return
+        except BlockingIOError:
+            if time.monotonic() > patience:
+                raise LedgerError(f"another program has locked {path}, for {_PATIENCE} seconds now") from None
+            time.sleep(pause)
+            pause = min(2 * pause, 0.05)
+
+
 class Writer:
     """Appends records to a ledger under one key. Several writers may append to the same ledger."""
 
     def __init__(self, path: str, key: PrivateKey) -> None:
         self._key, self._fingerprint = key.prepare(), key.public_key().fingerprint
-        self._folder = os.path.dirname(os.path.abspath(path))
+        self._path, self._folder = path, os.path.dirname(os.path.abspath(path))
         self._file = _opened(path, os.O_RDWR | os.O_APPEND | os.O_CREAT)
 
     def append(self, message: bytes, context: bytes = b"", *, deterministic: bool = False) -> None:
-        """Signs a message, and writes its record: all of it, or nothing where the disk is full."""
+        """Signs a message, and writes its record: all of it, or nothing where the disk is full. LedgerError if another
+        program keeps the ledger locked."""
         fields = (context, message, self._key.sign(message, context, deterministic=deterministic))
         line = b"\t".join([self._fingerprint.encode(), *map(base64.b64encode, fields)]) + b"\n"
-        fcntl.flock(self._file, fcntl.LOCK_EX)
+        _lock(self._file, self._path, fcntl.LOCK_EX)
         try:
             size = os.fstat(self._file).st_size
             if size and os.pread(self._file, 1, size - 1) != b"\n":
@@ -93,16 +108,10 @@ class Verdict(NamedTuple):
 
 def _end(path: str) -> int:
     """The length of a ledger while nobody writes, so that its last record is whole, unless a writer was killed."""
-    file, patience = _opened(path, os.O_RDONLY), time.monotonic() + _PATIENCE
+    file = _opened(path, os.O_RDONLY)
     try:
-        while True:
-            try:
-                fcntl.flock(file, fcntl.LOCK_SH | fcntl.LOCK_NB)
-                return os.fstat(file).st_size
-            except BlockingIOError:
-                if time.monotonic() > patience:
-                    raise LedgerError(f"another program has locked {path}, for {_PATIENCE} seconds now") from None
-                time.sleep(0.05)
+        _lock(file, path, fcntl.LOCK_SH)
+        return os.fstat(file).st_size
     finally:
         os.close(file)
 

@@ -19,7 +19,8 @@ export function installed(folder) {
     if (said === null) {
         return null;
     }
-    const [packed] = JSON.parse(said);
+    // (an array, and in npm 12 an object by the packages' names)
+    const [packed] = Object.values(JSON.parse(said));
     ran("install", join(folder, packed.filename));
     return packed.files.map(({ path }) => path);
 }

@@ -1,9 +1,12 @@
 // Keys in files.
 import assert from "node:assert/strict";
-import { createHash } from "node:crypto";
+import { createHash, webcrypto } from "node:crypto";
 import test from "node:test";
-import { KeyFileError, fingerprint, readPrivateKey, readPublicKey, writePrivateKey, writePublicKey } from "../keys.js";
-import { SEED, ofOpenssl, text, utf8 } from "./shared.js";
+import {
+    KeyFileError, fingerprint, readPrivateJwk, readPrivateKey, readPublicJwk, readPublicKey, writePrivateJwk,
+    writePrivateKey, writePublicJwk, writePublicKey,
+} from "../keys.js";
+import { SEED, hasMlDsa, ofOpenssl, text, utf8 } from "./shared.js";
 import { MlDsaError, load } from "../mldsa.js";
 
 const sets = await load();
@@ -208,6 +211,112 @@ test("a private key of another length is refused with those that it may have", (
             assert.throws(() => writePrivateKey(sets[`mlDsa${number}`], new Uint8Array(other)), isRight);
         }
         assert.throws(() => writePrivateKey(sets[`mlDsa${number}`], new Uint8Array(length).fill(255)), { name: "MlDsaError", status: 25 });
+    }
+});
+
+const base64url = (bytes) => Buffer.from(bytes).toString("base64url");
+
+test("a JWK has what WebCrypto writes of the keys that OpenSSL wrote", () => {
+    for (const number of [44, 65, 87]) {
+        const mlDsa = sets[`mlDsa${number}`];
+        const { publicKey, privateKey } = readPrivateKey(sets, text(`crates/mlsign_session/data/private-${number}.pem`));
+        const open = { kty: "AKP", alg: `ML-DSA-${number}`, pub: base64url(publicKey) };
+        const secret = { ...open, priv: base64url(SEED) };
+        assert.deepEqual(writePublicJwk(mlDsa, publicKey), open);
+        assert.deepEqual(writePrivateJwk(mlDsa, SEED), secret);
+        // WebCrypto adds these; other members mean nothing here.
+        for (const more of [{}, { ext: true, kid: "a" }, { use: "sig" }, { key_ops: undefined }]) {
+            assert.deepEqual(readPublicJwk(sets, { key_ops: ["verify"], ...more, ...open }), { set: number, publicKey });
+            assert.deepEqual(readPrivateJwk(sets, { key_ops: ["sign"], ...more, ...secret }), { set: number, seed: SEED, publicKey, privateKey });
+        }
+        assert.throws(() => writePublicJwk(mlDsa, publicKey.subarray(1)), { name: "MlDsaError", message: `an array has the wrong length: publicKey has ${publicKey.length - 1} bytes, and not ${publicKey.length}` });
+        assert.throws(() => writePrivateJwk(mlDsa, privateKey), { name: "MlDsaError", message: `an array has the wrong length: seed has ${privateKey.length} bytes, and not 32` });
+    }
+});
+
+test("why a JWK is refused", () => {
+    const open = writePublicJwk(sets.mlDsa44, sets.mlDsa44.keygen(SEED).publicKey);
+    const secret = writePrivateJwk(sets.mlDsa44, SEED);
+    const changed = (name, index, symbol) => secret[name].slice(0, index) + symbol + secret[name].slice(index + 1);
+    const both = [
+        [{ kty: "OKP" }, "its kty is not AKP"],
+        [{ kty: undefined }, "its kty is not AKP"],
+        [{ alg: "ML-DSA-45" }, "its alg is not ML-DSA-44, ML-DSA-65 or ML-DSA-87"],
+        [{ alg: undefined }, "its alg is not ML-DSA-44, ML-DSA-65 or ML-DSA-87"],
+        [{ alg: "ML-DSA-65" }, "its pub has 1312 bytes, and not 1952"],
+        [{ pub: secret.pub.slice(4) }, "its pub has 1309 bytes, and not 1312"],
+        [{ pub: undefined }, "its pub is not in base64url"],
+        [{ pub: [1] }, "its pub is not in base64url"],
+        [{ pub: `${secret.pub}==` }, "its pub is not in base64url"],
+        [{ pub: secret.pub.slice(1) }, "its pub is not in base64url"],
+        ...["+", "/", "=", "\n", " ", "\u0100"].map((symbol) => [{ pub: changed("pub", 5, symbol) }, "its pub is not in base64url"]),
+        [{ use: "enc" }, "its use is not sig"],
+        [{ key_ops: ["encrypt"] }, /^its key_ops do not have (sign|verify)$/],
+        [{ key_ops: "sign verify" }, /^its key_ops do not have (sign|verify)$/],
+    ];
+    const refusal = (message) => (message instanceof RegExp ? { name: "KeyFileError", message } : says(message));
+    for (const [members, message] of both) {
+        assert.throws(() => readPublicJwk(sets, { ...open, ...members }), refusal(message), JSON.stringify(members));
+        assert.throws(() => readPrivateJwk(sets, { ...secret, ...members }), refusal(message), JSON.stringify(members));
+    }
+    assert.throws(() => readPublicJwk(sets, { ...secret, key_ops: ["sign"] }), says("it has a private key, and not a public key"));
+    assert.throws(() => readPrivateJwk(sets, { ...open, key_ops: ["verify"] }), says("it has a public key, and not a private key"));
+    assert.throws(() => readPrivateJwk(sets, { ...secret, key_ops: ["verify"] }), says("its key_ops do not have sign"));
+    for (const priv of [`${secret.priv}=`, changed("priv", 42, "9"), "-", 5]) {
+        assert.throws(() => readPrivateJwk(sets, { ...secret, priv }), says("its priv is not in base64url"));
+    }
+    assert.throws(() => readPrivateJwk(sets, { ...secret, priv: base64url(SEED.subarray(1)) }), says("its priv has 31 bytes, and not 32"));
+    for (const members of [{ pub: changed("pub", 0, "_") }, { pub: changed("pub", 1700, "_") }, { priv: changed("priv", 0, "_") }]) {
+        assert.throws(() => readPrivateJwk(sets, { ...secret, ...members }), says("its pub is not the public key of its priv"));
+    }
+    for (const it of [undefined, null, 5, JSON.stringify(open), () => {}]) {
+        for (const call of [readPublicJwk, readPrivateJwk]) {
+            assert.throws(() => call(sets, it), typeError("jwk is not an object: of a text JSON.parse gives one"));
+            assert.throws(() => call(sets.mlDsa44, open), typeError("sets is not what load gives: await load()"));
+            assert.throws(() => call(sets, open, {}), typeError(`${call.name} takes at most 2 arguments, and was given 3`));
+        }
+    }
+});
+
+test("what WebCrypto of node writes is read, and what is written here it reads", async (t) => {
+    const { subtle } = webcrypto;
+    if (!(await hasMlDsa())) {
+        t.skip("this node has no ML-DSA in WebCrypto: node has it from 24.7 on");
+        return;
+    }
+    const message = utf8("a message");
+    const context = utf8("a context");
+    for (const number of [44, 65, 87]) {
+        const [name, mlDsa] = [`ML-DSA-${number}`, sets[`mlDsa${number}`]];
+        const theirs = await subtle.generateKey(name, true, ["sign", "verify"]);
+        const exported = async (format) => {
+            const [open, secret] = await Promise.all([theirs.publicKey, theirs.privateKey].map((key) => subtle.exportKey(format, key)));
+            return format === "jwk" ? [open, secret] : [new Uint8Array(open), new Uint8Array(secret)];
+        };
+        const [open, secret] = await exported("jwk");
+        const ours = readPrivateJwk(sets, secret);
+        assert.deepEqual(readPublicJwk(sets, open), { set: number, publicKey: ours.publicKey });
+        // The other formats have the same keys.
+        assert.deepEqual(new Uint8Array(await subtle.exportKey("raw-seed", theirs.privateKey)), ours.seed);
+        assert.deepEqual(new Uint8Array(await subtle.exportKey("raw-public", theirs.publicKey)), ours.publicKey);
+        assert.deepEqual(new Uint8Array(await subtle.exportKey("spki", theirs.publicKey)), mlDsa.publicKeyToDer(ours.publicKey));
+        assert.deepEqual(new Uint8Array(await subtle.exportKey("pkcs8", theirs.privateKey)), mlDsa.seedToDer(ours.seed));
+        // Keys go back in each format, and signatures both ways.
+        const publics = [["jwk", writePublicJwk(mlDsa, ours.publicKey)], ["raw-public", ours.publicKey], ["spki", mlDsa.publicKeyToDer(ours.publicKey)]];
+        const privates = [["jwk", writePrivateJwk(mlDsa, ours.seed)], ["raw-seed", ours.seed], ["pkcs8", mlDsa.seedToDer(ours.seed)], ["pkcs8", mlDsa.bothToDer(ours.seed)]];
+        const signed = mlDsa.sign(ours.privateKey, message, { context });
+        for (const [format, key] of publics) {
+            const imported = await subtle.importKey(format, key, name, true, ["verify"]);
+            assert.equal(await subtle.verify({ name, context }, imported, signed, message), true);
+            assert.equal(await subtle.verify(name, imported, signed, message), false);
+        }
+        for (const [format, key] of privates) {
+            const imported = await subtle.importKey(format, key, name, true, ["sign"]);
+            const signature = new Uint8Array(await subtle.sign({ name, context }, imported, message));
+            assert.equal(mlDsa.verify(ours.publicKey, message, signature, { context }), true);
+            assert.equal(mlDsa.verify(ours.publicKey, message, signature), false);
+        }
+        await assert.rejects(subtle.importKey("pkcs8", mlDsa.privateKeyToDer(ours.privateKey), name, true, ["sign"]));
     }
 });
 

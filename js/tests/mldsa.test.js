@@ -3,6 +3,7 @@ import assert from "node:assert/strict";
 import { webcrypto } from "node:crypto";
 import { readFileSync } from "node:fs";
 import { spawnSync } from "node:child_process";
+import { relative } from "node:path";
 import { fileURLToPath } from "node:url";
 import test from "node:test";
 import vm from "node:vm";
@@ -47,6 +48,7 @@ test("72 recorded keys and signatures, and those of digests", () => {
         assert.deepEqual([publicKey, privateKey, signature].map(sha256), fields.slice(4, 7));
         assert.equal(oid ? set.hashVerify(publicKey, message, oid, signature, { context }) : set.verify(publicKey, message, signature, { context }), true);
         assert.deepEqual(set.publicKey(privateKey), publicKey);
+        assert.deepEqual(set.getPublicKey(privateKey), publicKey);
         assert.equal(set.isWhole(privateKey), true);
         assert.equal(set.isPair(privateKey), true);
         set.checkPrivateKey(privateKey);
@@ -118,7 +120,7 @@ test("each array of a wrong length is refused by its name, but a signature is no
             seed: [SEED, (it) => set.keygen(it)],
             privateKey: [
                 privateKey,
-                ...["publicKey", "checkPrivateKey", "isWhole", "isPair", "messageHasherOfPrivate"].map((call) => (it) => set[call](it)),
+                ...["publicKey", "getPublicKey", "checkPrivateKey", "isWhole", "isPair", "messageHasherOfPrivate"].map((call) => (it) => set[call](it)),
                 (it) => set.sign(it, message), (it) => set.hashSign(it, digest, oid), (it) => set.signMu(it, mu),
             ],
             publicKey: [
@@ -336,6 +338,7 @@ function everyCall(set) {
     return {
         keygen: [[SEED]],
         publicKey: [[privateKey]],
+        getPublicKey: [[privateKey]],
         sign: [[privateKey, message], "context", "random"],
         verify: [[publicKey, message, signature], "context"],
         hashSign: [[privateKey, digest, oid], "context", "random"],
@@ -544,8 +547,10 @@ test("where none is given, random bytes are drawn, used and wiped", (t) => {
         return array;
     });
     const set = sets.mlDsa44;
-    const pair = set.keygen();
-    assert.deepEqual(set.keygen(seen[0][1]), pair);
+    const { seed, ...pair } = set.keygen();
+    assert.deepEqual(seed, seen[0][1]);
+    // Of a seed that is given nothing is returned.
+    assert.deepEqual(set.keygen(seed), pair);
     const signature = set.sign(pair.privateKey, utf8("m"));
     assert.deepEqual(set.sign(pair.privateKey, utf8("m"), { random: seen[1][1] }), signature);
     set.hashSign(pair.privateKey, new Uint8Array(32), oids["SHA-256"]);
@@ -622,6 +627,105 @@ test("long messages", () => {
     assert.equal(set.verify(publicKey, message, signature), false);
 });
 
+test("the module's memory stays small, however long an array was", async (t) => {
+    const { instantiate, Instance } = WebAssembly;
+    const memories = [];
+    const noted = (instance) => {
+        memories.push(instance.exports.memory);
+        return instance;
+    };
+    t.mock.method(WebAssembly, "instantiate", async (...words) => noted(await instantiate.call(WebAssembly, ...words)));
+    t.mock.method(WebAssembly, "Instance", function (...words) {
+        return noted(new Instance(...words));
+    });
+    for (const [number, length] of [[44, 3 << 20], [65, 64 << 20], [87, (3 << 20) + 5]]) {
+        const long = new Uint8Array(length).fill(7);
+        const set = (await load(code))[`mlDsa${number}`];
+        const [before, made] = [memories.length, set.keygen(SEED)];
+        const isSmall = () => memories.at(-1).buffer.byteLength < 1.5 * 2 ** 20;
+        const signature = set.sign(made.privateKey, long, { context: SEED });
+        assert.ok(isSmall(), "after signing a long message");
+        assert.equal(set.verify(made.publicKey, long, signature, { context: SEED }), true);
+        assert.equal(set.verify(made.publicKey, long, signature), false);
+        set.messageHasher(made.publicKey).update(long).mu();
+        assert.ok(isSmall(), "after verifying a long message");
+        assert.throws(() => set.sign(made.privateKey, long, { context: long.subarray(0, 256) }), refused(4, "context has 256 bytes, and at most 255 are allowed"));
+        assert.equal(set.verify(made.publicKey, long, signature, { context: long.subarray(0, 256) }), false);
+        assert.ok(isSmall(), "after a long message with a context that is too long");
+        assert.equal(memories.length, before, "one instance hashed all pieces");
+        // Other arrays that are too long take an instance of their own, of which nothing stays.
+        const calls = [
+            () => assert.throws(() => set.sign(made.privateKey, SEED, { context: long }), { status: 4 }),
+            () => assert.throws(() => set.hashSign(made.privateKey, long, oids["SHA-256"]), { status: 9 }),
+            () => assert.equal(set.hashVerify(made.publicKey, long, oids["SHA-256"], signature), false),
+            () => assert.throws(() => set.publicKeyFromDer(long), { status: 20 }),
+        ];
+        for (const call of calls) {
+            call();
+            assert.deepEqual(set.keygen(SEED), made);
+            assert.ok(isSmall(), "after another long array");
+        }
+    }
+});
+
+test("messages about as long as a piece are signed and verified as node hashes them", () => {
+    for (const number of [44, 65, 87]) {
+        const set = of(number);
+        const { publicKey, privateKey } = set.keygen(SEED);
+        const context = utf8("context");
+        const tr = shake("shake256", publicKey, 64);
+        for (const length of [2 ** 20 - 1, 2 ** 20, 2 ** 20 + 1, 2 ** 21 - 1, 2 ** 21, 2 ** 21 + 1]) {
+            const message = shake("shake128", "as long as a piece", length);
+            const mu = shake("shake256", Buffer.concat([tr, Buffer.from([0, 7]), context, message]), 64);
+            const signature = set.sign(privateKey, message, { context, random: SEED });
+            assert.deepEqual(set.signMu(privateKey, mu, { random: SEED }), signature);
+            assert.equal(set.verify(publicKey, message, signature, { context }), true);
+            assert.equal(set.verify(publicKey, message, signature), false);
+            message[length - 1] ^= 1;
+            assert.equal(set.verify(publicKey, message, signature, { context }), false);
+        }
+        // The hash `tr` that the private key keeps is hashed in both ways.
+        const other = privateKey.slice();
+        other[64] ^= 1;
+        const message = new Uint8Array(2 ** 20 + 1);
+        const mu = shake("shake256", Buffer.concat([other.subarray(64, 128), Buffer.from([0, 0]), message]), 64);
+        assert.deepEqual(set.sign(other, message, { random: SEED }), set.signMu(other, mu, { random: SEED }));
+    }
+});
+
+test("a long message is refused as a short one is", () => {
+    for (const number of [44, 65, 87]) {
+        const set = of(number);
+        const { publicKey, privateKey } = set.keygen(SEED);
+        const damaged = privateKey.slice();
+        damaged[128] = 255; // a coefficient of s1 above eta
+        const [short, context] = [privateKey.subarray(1), new Uint8Array(256)];
+        const signature = set.signMu(privateKey, new Uint8Array(64));
+        const contextsLength = refused(4, "context has 256 bytes, and at most 255 are allowed");
+        const keysLength = (name, array) => refused(2, `${name} has ${array.length} bytes, and not ${array.length + 1}`);
+        for (const message of [utf8("m"), new Uint8Array(2 ** 20 + 1)]) {
+            // The first of several errors is the same.
+            const rows = [
+                [contextsLength, privateKey, { context }],
+                [refused(14), damaged, {}],
+                [refused(14), damaged, { context }],
+                [keysLength("privateKey", short), short, { context, random: SEED.subarray(1) }],
+                [keysLength("random", SEED.subarray(1)), damaged, { context, random: SEED.subarray(1) }],
+                [{ name: "TypeError", message: "random is not a Uint8Array" }, damaged, { context, random: "" }],
+                [{ name: "TypeError", message: "context is not a Uint8Array" }, damaged, { context: "", random: "" }],
+                [{ name: "TypeError", message: "sign has no option ctx, but context and random" }, short, { ctx: context }],
+            ];
+            for (const [error, key, options] of rows) {
+                assert.throws(() => set.sign(key, message, options), error);
+            }
+            assert.equal(set.verify(publicKey, message, signature, { context }), false);
+            assert.equal(set.verify(publicKey, message, signature.subarray(1)), false);
+            assert.throws(() => set.verify(publicKey, message, "", { context }), { name: "TypeError", message: "signature is not a Uint8Array" });
+            assert.throws(() => set.verify(publicKey.subarray(1), message, "", { context }), keysLength("publicKey", publicKey.subarray(1)));
+        }
+    }
+});
+
 test("a set's calls do not disturb another's", () => {
     const pairs = [44, 65, 87].map((number) => [of(number), of(number).keygen(SEED)]);
     const signatures = pairs.map(([set, { privateKey }]) => set.sign(privateKey, SEED, { random: ZEROS }));
@@ -631,21 +735,34 @@ test("a set's calls do not disturb another's", () => {
     });
 });
 
-test("loads from a URL, its text, bytes, a response and a module", async () => {
+test("loads from a URL, its text, the path of a file, bytes, a response and a module", async (t) => {
     const wanted = sets.mlDsa44.keygen(SEED);
     const module = await WebAssembly.compile(code);
     const response = () => new Response(code, { headers: { "content-type": "application/wasm" } });
-    const sources = [undefined, place, place.href, code, new Uint8Array(code), new Uint8Array(code).buffer, module, response(), Promise.resolve(response()), Promise.resolve(code)];
+    const file = fileURLToPath(place);
+    const below = relative(process.cwd(), file);
+    const places = [place, place.href, { href: place.href }, file, below, `./${below}`];
+    const sources = [undefined, ...places, code, new Uint8Array(code), new Uint8Array(code).buffer, module, response(), Promise.resolve(response()), Promise.resolve(code)];
     for (const source of sources) {
         assert.deepEqual((await load(source)).mlDsa44.keygen(SEED), wanted);
     }
     await assert.rejects(load(new URL("absent.wasm", place)), { code: "ENOENT" });
     await assert.rejects(load(new Response("", { status: 404, statusText: "Not Found" })), /404 Not Found/);
     await assert.rejects(load(new Uint8Array([0, 1, 2])), WebAssembly.CompileError);
-    // A place that is not absolute is none: it would be beside this script, the page or the working folder.
-    await assert.rejects(load("mldsa.wasm"), TypeError);
+    // A path that is not absolute is one below the working folder, and not beside this script.
+    await assert.rejects(load("absent.wasm"), { code: "ENOENT", path: "absent.wasm" });
     await assert.rejects(load(null), TypeError);
     await assert.rejects(load(code, {}), TypeError);
+    // Text of two letters and more before a colon is a URL, and one letter a drive of Windows.
+    const asked = t.mock.method(globalThis, "fetch", async () => response());
+    await load("https://localhost/mldsa.wasm");
+    await assert.rejects(load("c:/absent.wasm"), { code: "ENOENT" });
+    // Where there is a page, its place is what text is relative to.
+    globalThis.location = { href: "https://localhost/folder/page.html" };
+    t.after(() => delete globalThis.location);
+    await load("./mldsa.wasm");
+    await load("/mldsa.wasm");
+    assert.deepEqual(asked.mock.calls.map((call) => call.arguments[0]), ["", "folder/", ""].map((it) => `https://localhost/${it}mldsa.wasm`));
 });
 
 test("where WebAssembly lacks something loading says so", async (t) => {
@@ -682,7 +799,7 @@ test("the types declare what there is", () => {
     const exported = [...types.matchAll(/^export (?:class|function|const) (\w+)/gm)].map(([, name]) => name);
     assert.deepEqual(exported.sort(), Object.keys(all).sort());
     const inside = types.match(/export interface MlDsa \{(.*?)^\}/ms)[1];
-    const calls = [...inside.matchAll(/^ {4}(\w+)\(/gm)].map(([, name]) => name);
+    const calls = [...new Set([...inside.matchAll(/^ {4}(\w+)\(/gm)].map(([, name]) => name))];
     const prototype = Object.getPrototypeOf(sets.mlDsa44);
     assert.deepEqual(calls.sort(), Object.getOwnPropertyNames(prototype).filter((name) => name !== "constructor").sort());
 });

@@ -155,22 +155,45 @@ test("bundled for node without the module it is read beside the bundle, and else
     assert.match(run.stderr, /this script does not know where mldsa\.wasm is.*mldsa\/inline/);
 });
 
-test("types, with old and new ways of finding them, and without those of the DOM or of node", (t) => {
-    if (spawnSync("tsc", ["--version"]).error) {
-        t.skip("there is no tsc");
-        return;
-    }
+/** The compilers of TypeScript and their versions: those that TSC names, each after a colon, or else `tsc`. */
+const COMPILERS = (process.env.TSC ?? "tsc").split(":").flatMap((name) => {
+    const version = spawnSync(name, ["--version"], { encoding: "utf8" }).stdout?.match(/\d[\d.]+/)[0];
+    return version === undefined ? [] : [[name, version]];
+});
+
+/** A test of what each of these compilers says. */
+function typeTest(name, tried) {
+    const versions = COMPILERS.map(([, version]) => version).join(" and ");
+    const skip = files === null ? "there is no npm" : versions === "" && "there is no tsc";
+    nodeTest(`${name}, by TypeScript ${versions}`, { skip }, () => {
+        COMPILERS.forEach(([compiler, version]) => tried(compiler, parseInt(version)));
+    });
+}
+
+typeTest("types, with old and new ways of finding them, and with those of the DOM or without", (compiler, major) => {
     const typed = join(room, "typed");
-    mkdirSync(typed);
-    cpSync(join(dirname(fileURLToPath(import.meta.url)), "types.ts"), join(typed, "types.ts"));
-    for (const lib of [["es2020"], ["es2020", "dom"]]) {
-        const kinds = [["node", "commonjs"], ["node16", "node16", "module"]];
+    mkdirSync(typed, { recursive: true });
+    for (const name of ["types.ts", "dom.ts"]) {
+        cpSync(join(dirname(fileURLToPath(import.meta.url)), name), join(typed, name));
+    }
+    const byVersion = major < 6 ? ["node", "commonjs"] : ["bundler", "es2022"];
+    const kinds = [byVersion, ["node16", "node16", "module"]];
+    for (const [lib, files] of [[["es2020"], ["types.ts"]], [["es2020", "dom"], ["types.ts", "dom.ts"]]]) {
         for (const [moduleResolution, module, type] of kinds) {
             const strict = { noEmit: true, strict: true, target: "es2020", types: [] };
             const compilerOptions = { ...strict, lib, module, moduleResolution };
-            writeFileSync(join(typed, "tsconfig.json"), JSON.stringify({ compilerOptions, files: ["types.ts"] }));
+            writeFileSync(join(typed, "tsconfig.json"), JSON.stringify({ compilerOptions, files }));
             writeFileSync(join(typed, "package.json"), JSON.stringify({ type }));
-            ran("tsc", ["-p", "."], typed);
+            ran(compiler, ["-p", "."], typed);
         }
     }
+});
+
+typeTest("the README's line for TypeScript compiles the first program", (compiler) => {
+    const readme = text("js/README.md");
+    const [, words] = readme.match(/`tsc (--.*? first\.mts)`/);
+    writeFileSync(join(room, "first.mts"), readme.match(/^```js\n(.*?)^```$/ms)[1]);
+    ran(compiler, words.split(" "));
+    assert.equal(ran(process.execPath, ["first.mjs"]).trim(), "true");
+    rmSync(join(room, "first.mjs"));
 });

@@ -4,7 +4,7 @@
 // The browser is driven through its DevTools protocol, over a pipe: messages of JSON, each ended by a zero byte.
 import { execFileSync, spawn } from "node:child_process";
 import { createHash } from "node:crypto";
-import { copyFileSync, mkdirSync, mkdtempSync, readFileSync, rmSync, writeFileSync } from "node:fs";
+import { copyFileSync, mkdirSync, mkdtempSync, readFileSync, readdirSync, rmSync, writeFileSync } from "node:fs";
 import { createServer } from "node:http";
 import { tmpdir } from "node:os";
 import { join } from "node:path";
@@ -197,7 +197,40 @@ async function thePage() {
     await answers(browser, "one file beside its place", "unknown", /Drop all three files at once, or one onto its place/);
     await browser.drop("h1", [message, message, message]);
     await answers(browser, "three files of which none is a key", "unknown", /^It is not clear which of the three is the key/);
+    // Others that are dropped while the page checks end that check, whatever they are.
+    const { privateKey } = mlDsa65.keygen(SEED);
+    const slow = new Uint8Array(64 << 20).fill(7);
+    const three = [write("slow", slow), write("slow.sig", mlDsa65.sign(privateKey, slow)), write("release.pub", ofOpenssl(65).pem)];
+    const reads = () => browser.value("document.getElementById('headline').textContent === 'Checking' && document.getElementById('progress').value > 0");
+    for (const [what, others, reason] of [
+        ["two files while it checks", [message, message], /^Drop all three files at once, or one onto its place/],
+        ["three others while it checks", [message, message, message], /^It is not clear which of the three is the key/],
+    ]) {
+        await browser.reload(join(out, "verify.html"));
+        await browser.drop("h1", three);
+        await browser.until(reads).then(() => note(`${what}: it does check`, true, "slow"), () => note(`${what}: it does check`, false, "it ended before"));
+        await browser.drop("h1", others);
+        await answers(browser, what, "unknown", reason);
+        // The older answer would come now.
+        await new Promise((resolve) => setTimeout(resolve, 5000));
+        await answers(browser, `${what} and later`, "unknown", reason);
+    }
+    // Files that can't be read are those of an older drop too.
+    await browser.reload(join(out, "verify.html"));
+    await browser.value(`(() => {
+        const own = Blob.prototype.arrayBuffer;
+        Blob.prototype.arrayBuffer = () => new Promise((_, reject) => setTimeout(() => reject(new Error("gone")), 2000));
+        setTimeout(() => { Blob.prototype.arrayBuffer = own; }, 1000);
+    })()`);
+    await browser.drop("h1", parts);
+    await new Promise((resolve) => setTimeout(resolve, 1500));
+    await browser.drop("h1", parts);
+    await answers(browser, "three files after others", "valid", /long.sig is a signature of long by/);
+    await new Promise((resolve) => setTimeout(resolve, 2000));
+    await answers(browser, "three files after others that are gone", "valid", /long.sig is a signature of long by/);
     await browser.close();
+    const pages = readdirSync(here).filter((it) => it.endsWith(".html"));
+    note("no other file of the folder looks like the page", pages.every((it) => it.endsWith(".template.html")), pages.join(", "));
 }
 
 /** What the page says where WebAssembly lacks something: the browser has it, so it is made to deny it. */

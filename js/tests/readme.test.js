@@ -9,7 +9,7 @@ import test from "node:test";
 import { fileURLToPath } from "node:url";
 import * as keys from "../keys.js";
 import * as all from "../mldsa.js";
-import { ofOpenssl, text, utf8 } from "./shared.js";
+import { hasMlDsa, ofOpenssl, text, utf8 } from "./shared.js";
 
 test("the example is a file, and prints that the signature is valid", async (t) => {
     const shown = text("js/README.md").match(/^```js\n(.*?)^```$/ms)[1];
@@ -19,14 +19,49 @@ test("the example is a file, and prints that the signature is valid", async (t) 
     assert.deepEqual(printed.mock.calls.map((call) => call.arguments), [[true]]);
 });
 
-test("the program of the README that keeps keys in files runs as it stands, and nobody else can read the private key", (t) => {
+/** A folder that has the package, until the test ends. */
+function roomOf(t) {
     const room = mkdtempSync(join(tmpdir(), "mldsa-"));
     t.after(() => rmSync(room, { recursive: true }));
     mkdirSync(join(room, "node_modules"));
     symlinkSync(fileURLToPath(new URL("..", import.meta.url)), join(room, "node_modules/mldsa"));
-    writeFileSync(join(room, "files.mjs"), [...text("js/README.md").matchAll(/^```js\n(.*?)^```$/gms)][1][1]);
-    assert.equal(execFileSync(process.execPath, ["files.mjs"], { cwd: room, encoding: "utf8" }), "true\n");
+    return room;
+}
+
+/** What a program prints in a folder. */
+function printed(room, name, program) {
+    writeFileSync(join(room, name), program);
+    return execFileSync(process.execPath, ["--no-warnings", name], { cwd: room, encoding: "utf8" });
+}
+
+test("the program of the README that keeps keys in files runs as it stands, and nobody else can read the private key", (t) => {
+    const room = roomOf(t);
+    const program = [...text("js/README.md").matchAll(/^```js\n(.*?)^```$/gms)][1][1];
+    assert.equal(printed(room, "files.mjs", program), "true\n");
     assert.equal(statSync(join(room, "release.pem")).mode & 0o777, 0o600);
+});
+
+test("the programs for those who come from noble or WebCrypto print the same as theirs", async (t) => {
+    const room = roomOf(t);
+    const ours = (name) => printed(room, `${name}.mjs`, text(`js/tests/programs/${name}-here.js`));
+    assert.equal(ours("noble"), "true\n");
+    assert.equal(ours("webcrypto"), "ML-DSA-65 true\n");
+    await t.test("theirs, of noble", (its) => {
+        // (the folder node_modules that has it)
+        if (process.env.NOBLE === undefined) {
+            its.skip("NOBLE does not say where noble is");
+            return;
+        }
+        symlinkSync(join(process.env.NOBLE, "@noble"), join(room, "node_modules/@noble"));
+        assert.equal(printed(room, "theirs.mjs", text("js/tests/programs/noble.js")), "true\n");
+    });
+    await t.test("theirs, of WebCrypto", async (its) => {
+        if (!(await hasMlDsa())) {
+            its.skip("this node has no ML-DSA in WebCrypto: node has it from 24.7 on");
+            return;
+        }
+        assert.equal(printed(room, "theirs.mjs", text("js/tests/programs/webcrypto.js")), "ML-DSA-65 true\n");
+    });
 });
 
 /** Each call that a file of types declares, and the lines of its example. A line `CALL; // VALUE` says what it gives. */

@@ -1,5 +1,5 @@
 // What the tests share: recorded values of the repository.
-import { createHash } from "node:crypto";
+import { createHash, webcrypto } from "node:crypto";
 import { readFileSync } from "node:fs";
 
 const top = new URL("../../", import.meta.url);
@@ -14,6 +14,11 @@ export const utf8 = (words) => new TextEncoder().encode(words);
 export function ofOpenssl(number) {
     const file = (name) => readFileSync(new URL(`crates/mlsign_session/data/${name}`, top));
     return { pem: file(`public-${number}.pem`).toString(), signature: new Uint8Array(file(`signature-${number}`)) };
+}
+
+/** Whether the WebCrypto of this node has ML-DSA. */
+export function hasMlDsa() {
+    return webcrypto.subtle.generateKey("ML-DSA-65", true, ["sign", "verify"]).then(() => true, () => false);
 }
 
 /** The numbers from 0 to 31. */

@@ -9,6 +9,9 @@ export async function uses(bytes: Uint8Array, source: Source): Promise<boolean> 
     const { mlDsa44, mlDsa65, mlDsa87 } = loaded;
     const sets: MlDsa[] = [mlDsa44, mlDsa65, mlDsa87, (await inline.load(bytes)).mlDsa44, (await load(source)).mlDsa65];
     const pair: KeyPair = sets[0].keygen();
+    const drawn: Uint8Array = sets[0].keygen().seed;
+    const given: Uint8Array | undefined = drawn.length > 0 ? drawn : undefined;
+    sets[0].isPair(sets[0].keygen(given).privateKey);
     const signature: Uint8Array = mlDsa44.sign(pair.privateKey, bytes, { context: bytes, random: bytes });
     const hasher: MessageHasher = mlDsa44.messageHasher(pair.publicKey, { context: bytes }).update(bytes);
     const mark: string = await fingerprint(loaded, writePublicKey(mlDsa44, pair.publicKey));
@@ -21,6 +24,8 @@ export async function uses(bytes: Uint8Array, source: Source): Promise<boolean> 
     await load({ href: "https://localhost/mldsa.wasm" });
     await load({ ok: true, arrayBuffer: async () => new ArrayBuffer(which) });
 
+    // @ts-expect-error: of a seed that is given nothing is returned
+    sets[0].keygen(drawn).seed;
     // @ts-expect-error: a context as bytes
     mlDsa44.sign(pair.privateKey, bytes, bytes);
     // @ts-expect-error: an option of another name

@@ -17,11 +17,13 @@ from ._interface import VERSION_TEXT as __version__
 from ._keys import (MessageHasher, MLDSA44PrivateKey, MLDSA44PublicKey, MLDSA65PrivateKey, MLDSA65PublicKey,
                     MLDSA87PrivateKey, MLDSA87PublicKey, PreparedPrivateKey, PreparedPublicKey, PrivateKey, PublicKey,
                     load_der_private_key, load_der_public_key, load_pem_private_key, load_pem_public_key)
+from ._serialization import Encoding, NoEncryption, PrivateFormat, PublicFormat
 
-__all__ = ["InvalidSignature", "KeyFileError", "MLDSA44PrivateKey", "MLDSA44PublicKey", "MLDSA65PrivateKey",
-           "MLDSA65PublicKey", "MLDSA87PrivateKey", "MLDSA87PublicKey", "MessageHasher", "PreparedPrivateKey",
-           "PreparedPublicKey", "PrivateKey", "PublicKey", "SigningError", "__version__", "load_der_private_key",
-           "load_der_public_key", "load_pem_private_key", "load_pem_public_key"]
+__all__ = ["Encoding", "InvalidSignature", "KeyFileError", "MLDSA44PrivateKey", "MLDSA44PublicKey", "MLDSA65PrivateKey",
+           "MLDSA65PublicKey", "MLDSA87PrivateKey", "MLDSA87PublicKey", "MessageHasher", "NoEncryption",
+           "PreparedPrivateKey", "PreparedPublicKey", "PrivateFormat", "PrivateKey", "PublicFormat", "PublicKey",
+           "SigningError", "__version__", "load_der_private_key", "load_der_public_key", "load_pem_private_key",
+           "load_pem_public_key"]
 
 # What is public is shown, and pickled, by the name that others import it by.
 for _each in [it for it in map(globals().get, __all__) if callable(it)]:

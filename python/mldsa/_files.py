@@ -12,7 +12,7 @@ from typing import NoReturn
 from ._errors import KeyFileError
 
 PUBLIC, PRIVATE = b"PUBLIC KEY", b"PRIVATE KEY"
-_BEGINNING = b"-----BEGIN "
+BEGINNING = b"-----BEGIN "
 _LINE = 64
 _WHITE = b" \t\n\r\f"
 
@@ -32,7 +32,7 @@ def _refuse(message: str) -> NoReturn:
 
 def is_pem(given: bytes) -> bool:
     """Whether bytes begin as PEM does."""
-    return given.startswith(_BEGINNING)
+    return given.startswith(BEGINNING)
 
 
 def _encrypted(label: bytes) -> str:
@@ -53,9 +53,9 @@ def checked_der(label: bytes, given: bytes) -> bytes:
 
 def _of_label(label: bytes, text: bytes) -> str:
     """What a text has that begins with another label than this."""
-    if text.startswith(_BEGINNING + b"ENCRYPTED PRIVATE KEY-----"):
+    if text.startswith(BEGINNING + b"ENCRYPTED PRIVATE KEY-----"):
         return _encrypted(label)
-    if text.startswith(_BEGINNING + (PUBLIC if label == PRIVATE else PRIVATE) + b"-----"):
+    if text.startswith(BEGINNING + (PUBLIC if label == PRIVATE else PRIVATE) + b"-----"):
         return OTHER[label]
     return "it has a key of another kind, or something else than a key"
 
@@ -73,7 +73,7 @@ def decode_pem(label: bytes, text: bytes) -> bytes:
     if not text:
         _refuse(_EMPTY)
     first, last = b"-----BEGIN " + label + b"-----", b"-----END " + label + b"-----"
-    at = text.find(_BEGINNING)
+    at = text.find(BEGINNING)
     if not text.startswith(first, max(at, 0)):
         rest = text[max(at, 0):]
         _refuse(
@@ -86,7 +86,7 @@ def decode_pem(label: bytes, text: bytes) -> bytes:
     if not text.startswith(last, end):
         # The last line of the strict form ends in LF.
         _refuse(_CUT if (last + b"\n").startswith(text[end:]) else _DAMAGED)
-    if _BEGINNING in text[end + len(last):]:
+    if BEGINNING in text[end + len(last):]:
         _refuse("more follows behind its end")
     symbols = text[start:end].translate(None, _WHITE)
     try:

@@ -1,6 +1,8 @@
 """Beside OpenSSL, through Python's `cryptography`, and its command."""
+import inspect
 import random
 import unittest
+from typing import Any
 
 from shared import NUMBERS, PRIVATE, PUBLIC
 
@@ -72,15 +74,51 @@ class BesideOpenssl(unittest.TestCase):
             with self.assertRaisesRegex(mldsa.KeyFileError, "^it is encrypted, "):
                 getattr(mldsa, f"load_{form}_private_key")(file)
 
+    def test_encodings_and_formats(self):
+        """What is written here is written there with members of the same names, with the same bytes."""
+        for number in NUMBERS:
+            ours, other = self.both(number)
+            calls: Any = ((ours.private_bytes, other.private_bytes, "PrivateFormat", ["NoEncryption"]),
+                          (ours.public_key().public_bytes, other.public_key().public_bytes, "PublicFormat", []))
+            for here, there, kind, none in calls:
+                for encoding in mldsa.Encoding:
+                    for format_ in getattr(mldsa, kind):
+                        given, same = ([getattr(module.Encoding, encoding.name),
+                                        getattr(getattr(module, kind), format_.name),
+                                        *(getattr(module, name)() for name in none)]
+                                       for module in (mldsa, serialization))
+                        try:
+                            wanted = there(*same)
+                        except (TypeError, ValueError):
+                            self.assertRaises(ValueError, here, *given)
+                        else:
+                            self.assertEqual(here(*given), wanted)
+
+    def test_the_same_loaders(self):
+        """A call that is right there is right here, except with an argument that is about RSA."""
+        for form in ("pem", "der"):
+            for kind in ("private", "public"):
+                name, about_rsa = f"load_{form}_{kind}_key", {"unsafe_skip_rsa_key_validation"}
+                here, there = (list(inspect.signature(getattr(module, name)).parameters)
+                               for module in (mldsa, serialization))
+                self.assertEqual(here, [it for it in there if it not in about_rsa])
+            _, other = self.both(65)
+            file = other.private_bytes(getattr(serialization.Encoding, form.upper()), serialization.PrivateFormat.PKCS8,
+                                       serialization.NoEncryption())
+            for module in (mldsa, serialization):
+                load = getattr(module, f"load_{form}_private_key")
+                load(file, None)
+                self.assertRaises(TypeError, load, file, b"word")
+                self.assertRaises(TypeError, load, file.decode("latin-1"), None)
+
     def test_the_same_names(self):
-        """What the classes there offer is here by the same name, but files, which have calls of their own."""
-        own = {"private_bytes", "public_bytes"}
+        """What the classes there offer is here by the same name."""
         for number in NUMBERS:
             for kind, here in (
                 (f"MLDSA{number}PrivateKey", PRIVATE[number]),
                 (f"MLDSA{number}PublicKey", PUBLIC[number]),
             ):
-                names = {it for it in vars(getattr(theirs, kind)) if not it.startswith("_")} - own - {"register"}
+                names = {it for it in vars(getattr(theirs, kind)) if not it.startswith("_")} - {"register"}
                 self.assertEqual({it for it in names if not hasattr(here, it)}, set())
 
 

@@ -11,9 +11,14 @@ from shared import MLSIGN, NUMBERS, PRIVATE, PUBLIC, SEED
 
 import keyfiles
 from keyfiles import algorithm, element, private_der, public_der
-from mldsa import (InvalidSignature, KeyFileError, load_der_private_key, load_der_public_key, load_pem_private_key,
-                   load_pem_public_key)
+import mldsa
+from mldsa import Encoding, InvalidSignature, KeyFileError, NoEncryption, PrivateFormat, PublicFormat
 
+# Of any type, since those of private keys have one argument more.
+load_der_private_key: Any = mldsa.load_der_private_key
+load_der_public_key: Any = mldsa.load_der_public_key
+load_pem_private_key: Any = mldsa.load_pem_private_key
+load_pem_public_key: Any = mldsa.load_pem_public_key
 KEYS = {number: PRIVATE[number].from_seed_bytes(SEED) for number in NUMBERS}
 ARC = {number: keyfiles.ARC[str(number)] for number in NUMBERS}
 NO_SEED = "it has no seed: an expanded key does not reveal its seed"
@@ -93,6 +98,41 @@ class Written(unittest.TestCase):
             for wrong in ("", "raw", "Seed", 7):
                 with self.assertRaisesRegex(ValueError, "^parts is seed, expanded or both, and not "):
                     key.to_pem(wrong)
+
+    def test_encodings_and_formats(self):
+        """Each pair of an encoding and a format, by the calls of `cryptography`."""
+        key = KEYS[65]
+        public, raw, pkcs8, info = key.public_key(), "Raw", "PKCS8", "SubjectPublicKeyInfo"
+        written = {(PrivateFormat, "DER", pkcs8): private_der(ARC[65], element(128, SEED)),
+                   (PrivateFormat, "PEM", pkcs8): pem(private_der(ARC[65], element(128, SEED)), "PRIVATE KEY"),
+                   (PrivateFormat, raw, raw): SEED,
+                   (PublicFormat, "DER", info): public_der(ARC[65], public.public_bytes_raw()),
+                   (PublicFormat, "PEM", info): pem(public_der(ARC[65], public.public_bytes_raw())),
+                   (PublicFormat, raw, raw): public.public_bytes_raw()}
+        calls: Any = ((PrivateFormat, key.private_bytes, NoEncryption()), (PublicFormat, public.public_bytes))
+        for kind, call, *more in calls:
+            for encoding in Encoding:
+                for format_ in kind:
+                    wanted = written.get((kind, encoding.name, format_.name))
+                    if wanted is None:
+                        self.assertRaisesRegex(ValueError, f"^{format_} does not go with {encoding}: take Raw for both "
+                                               "or for neither$", call, encoding, format_, *more)
+                    else:
+                        self.assertEqual(call(encoding, format_, *more), wanted)
+            other = PublicFormat.Raw if kind is PrivateFormat else PrivateFormat.Raw
+            for given, sentence in ((("PEM", kind.Raw), "the encoding has to be Encoding, and not str"),
+                                    ((Encoding.Raw, "Raw"), f"the format has to be {kind.__name__}, and not str"),
+                                    ((Encoding.Raw, other), f"the format has to be {kind.__name__}, and not ")):
+                self.assertRaisesRegex(TypeError, f"^{sentence}", call, *given, *more)
+        for encryption in (None, NoEncryption, b"word"):
+            with self.assertRaisesRegex(TypeError, "^the encryption has to be NoEncryption, and not "):
+                key.private_bytes(Encoding.PEM, PrivateFormat.PKCS8, encryption)
+
+    def test_formats_of_a_key_without_a_seed(self):
+        key = PRIVATE[44].from_expanded_bytes(KEYS[44].expanded_bytes())
+        self.assertEqual(key.private_bytes(Encoding.DER, PrivateFormat.PKCS8, NoEncryption()), key.to_der("expanded"))
+        with self.assertRaisesRegex(ValueError, f"^{NO_SEED}$"):
+            key.private_bytes(Encoding.Raw, PrivateFormat.Raw, NoEncryption())
 
 
 class Refused(unittest.TestCase):
@@ -194,6 +234,31 @@ class Refused(unittest.TestCase):
         for load in LOADS.values():
             for name in ("key.pem", pathlib.Path("key.pem")):
                 self.assertRaisesRegex(TypeError, wanted, load, name)
+
+    def test_passwords(self):
+        """None is what `cryptography` wants of a key that is not encrypted. Any other is an error there too."""
+        key, encrypted = KEYS[65], pem(b"", "ENCRYPTED PRIVATE KEY")
+        for load, file, cut in ((load_pem_private_key, key.to_pem("both"), "it is cut short"),
+                                (load_der_private_key, key.to_der("expanded"), "its DER is cut short")):
+            for given in ((None,), (None, None), (None, object())):
+                self.assertEqual(load(file, *given).public_key(), key.public_key())
+            self.assertEqual(load(data=file, password=None, backend=None).public_key(), key.public_key())
+            for password in (b"word", b"", "word", 0):
+                with self.assertRaisesRegex(TypeError, "^a password was given, but the private key is not encrypted$"):
+                    load(file, password)
+            self.refuses(lambda it, load=load: load(it, b"word"), file[:30], cut)
+        self.refuses(lambda it: load_pem_private_key(it, b"word"), encrypted, IS_ENCRYPTED)
+        for load, file in ((load_pem_public_key, key.public_key().to_pem()),
+                           (load_der_public_key, key.public_key().to_der())):
+            self.assertEqual([load(file, None), load(data=file, backend=None)], [key.public_key()] * 2)
+
+    def test_pem_as_a_text(self):
+        """As a variable of the environment has it."""
+        sentence = "^the file has to be bytes-like, and not str: this is PEM as a text, so give text.encode\\(\\)$"
+        for load in LOADS.values():
+            for key in (KEYS[65], KEYS[65].public_key()):
+                for text in (key.to_pem().decode(), "Subject: me\n" + key.to_pem().decode()):
+                    self.assertRaisesRegex(TypeError, sentence, load, text)
 
     def test_raw_bytes_that_are_pem(self):
         for call, given, kind in (

@@ -4,6 +4,7 @@ import base64
 import concurrent.futures
 import copy
 import ctypes
+import dataclasses
 import hashlib
 import inspect
 import io
@@ -16,6 +17,7 @@ import threading
 import time
 import types
 import unittest
+from typing import Any
 from unittest import mock
 
 from shared import FUNCTIONS, LENGTHS, NUMBERS, PRIVATE, PUBLIC, SEED, random, shake
@@ -28,7 +30,16 @@ KEY = KEYS[44]
 PUB = KEY.public_key()
 SIGNATURE = KEY.sign(b"message", b"context", deterministic=True)
 MU = KEY.hasher().mu()
+# FIPS 204, Algorithm 2, line 10, and Algorithm 7, line 6.
+PUB_MU = shake(shake(PUB.public_bytes_raw(), 64) + b"\0\0message", 64)
 DIGEST = hashlib.sha256(b"message").digest()
+
+
+@dataclasses.dataclass
+class Holder:
+    """Holds a key, as a program's settings may."""
+
+    held: object
 
 
 def digest_of(name, message=b"message"):
@@ -250,17 +261,27 @@ class Keys(unittest.TestCase):
             self.assertEqual(repr(key), f"<MLDSA{number}PrivateKey with the public key {fingerprint}>")
             self.assertEqual(repr(key.public_key()), f"<MLDSA{number}PublicKey {fingerprint}>")
 
-    def test_no_copies(self):
+    def test_copies(self):
+        for key in (KEY, KEY.prepare(), PUB, PUB.prepare()):
+            for copied in (copy.copy(key), copy.deepcopy(key), dataclasses.asdict(Holder(key))["held"]):
+                self.assertIs(copied, key)
+        calls: Any = (copy.copy, copy.deepcopy)
+        for copying in calls:
+            hasher = KEY.hasher()
+            hasher.update(b"mess")
+            copied, before = copying(hasher), hasher.mu()
+            copied.update(b"age")
+            self.assertEqual((copied.mu(), hasher.mu()), (PUB_MU, before))
+
+    def test_pickles(self):
         for key in (KEY, KEY.prepare(), PUB.prepare(), KEY.hasher()):
-            self.assertRaisesRegex(TypeError, "is not copied or pickled", copy.copy, key)
-            self.assertRaisesRegex(TypeError, "is not copied or pickled", copy.deepcopy, key)
             for protocol in range(pickle.HIGHEST_PROTOCOL + 1):
-                self.assertRaisesRegex(TypeError, "is not copied or pickled", pickle.dumps, key, protocol)
+                self.assertRaisesRegex(TypeError, f"^{type(key).__name__} can't be pickled$", pickle.dumps, key,
+                                       protocol)
         for protocol in range(pickle.HIGHEST_PROTOCOL + 1):
             pickled = pickle.dumps(PUB, protocol)
             self.assertEqual(pickle.loads(pickled), PUB)
             self.assertNotIn(b"_keys", pickled)
-        self.assertTrue(copy.copy(PUB) == copy.deepcopy(PUB) == PUB)
 
     def test_constructors(self):
         for kind in (*PRIVATE.values(), *PUBLIC.values(), mldsa.PreparedPrivateKey, mldsa.PreparedPublicKey,

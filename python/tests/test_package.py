@@ -25,6 +25,13 @@ class Package(unittest.TestCase):
         self.assertEqual([mldsa.__version__, importlib.metadata.version("mldsa")], [wanted, wanted])
         self.assertEqual(_library._LIBRARY.mldsa_version(), VERSION)
 
+    def test_licence(self):
+        """It is an SPDX expression, which setuptools from 77 on writes under another name."""
+        said = importlib.metadata.metadata("mldsa")
+        self.assertEqual(said["License-Expression"] or said["License"], "MIT OR Apache-2.0")
+        # A table is what setuptools will refuse.
+        self.assertNotRegex((shared.TOP / "python/pyproject.toml").read_text(encoding="utf-8"), r"(?m)^license\b")
+
     def test_it_needs_nothing(self):
         self.assertIsNone(importlib.metadata.requires("mldsa"))
         self.assertTrue((pathlib.Path(mldsa.__file__).parent / "py.typed").is_file())

@@ -14,16 +14,18 @@ import unittest
 from shared import PYTHON, TOP
 
 import mldsa
-from mldsa import _interface, _keys
+from mldsa import _interface, _keys, _serialization
 
 PAGE = (TOP / "python/README.md").read_text(encoding="utf-8")
 BLOCKS = re.findall(r"^```python\n(.*?)^```$", PAGE, re.M | re.S)
 
 # Uses of each kind of file and buffer.
 TYPES = """
+import copy
 import io
 import pathlib
-from mldsa import MLDSA44PublicKey, MLDSA65PrivateKey, PrivateKey, PublicKey, load_pem_private_key
+from mldsa import (Encoding, MLDSA44PublicKey, MLDSA65PrivateKey, NoEncryption, PrivateFormat, PrivateKey, PublicFormat,
+                   PublicKey, load_pem_private_key)
 
 key: PrivateKey = load_pem_private_key(bytearray())
 public: PublicKey = key.public_key()
@@ -34,6 +36,10 @@ public.verify_file(signature, io.BytesIO())
 public.verify_file(signature, pathlib.Path("file"))
 public.prepare().verify_file(signature, "file")
 narrow.verify(bytearray(), memoryview(b""))
+file_of_key: bytes = key.private_bytes(Encoding.PEM, PrivateFormat.PKCS8, NoEncryption())
+file_of_key = public.public_bytes(Encoding.DER, PublicFormat.SubjectPublicKeyInfo)
+key = load_pem_private_key(file_of_key, None)
+copied: MLDSA44PublicKey = copy.copy(narrow)
 """
 
 
@@ -52,7 +58,7 @@ class Page(unittest.TestCase):
                 done = run()
                 self.assertEqual((done.returncode, done.stderr), (0, ""))
                 if number == 0:
-                    self.assertEqual(done.stdout, "the signature is invalid\n")
+                    self.assertEqual(done.stdout, "the signature is valid\nthe signature is invalid\n")
                 if "O_EXCL" in block:
                     self.assertIn("FileExistsError", run().stderr)
                     self.assertIn("`FileExistsError`", PAGE)
@@ -63,7 +69,8 @@ class Page(unittest.TestCase):
             self.skipTest("there is no mypy")
         with tempfile.TemporaryDirectory() as room:
             wrong = [f"from mldsa import MLDSA65PrivateKey\nMLDSA65PrivateKey{it}\n"
-                     for it in (".generate().sign('text')", ".generate().to_pem('sed')", "(bytes(32))")]
+                     for it in (".generate().sign('text')", ".generate().to_pem('sed')", "(bytes(32))",
+                                ".generate().public_key().public_bytes('PEM', 'Raw')")]
             for number, block in enumerate([*BLOCKS, TYPES, *wrong]):
                 file = pathlib.Path(room) / f"block{number}.py"
                 file.write_text(block, encoding="utf-8")
@@ -94,7 +101,8 @@ class Docstrings(unittest.TestCase):
                 for test in doctest.DocTestFinder().find(own, module=False, globs={**vars(_keys), **names}):
                     runner.run(test, out=said.append)
         self.assertEqual(runner.failures, 0, "".join(said))
-        self.assertEqual(runner.tries, sum(inspect.getsource(it).count(">>> ") for it in (mldsa, _keys)))
+        sources = map(inspect.getsource, (mldsa, _keys, _serialization))
+        self.assertEqual(runner.tries, sum(it.count(">>> ") for it in sources))
 
     def test_each(self):
         kinds = (_keys.MessageHasher, _keys._Key, _keys._Signer, _keys._Verifier, _keys.PublicKey, _keys.PrivateKey)

@@ -1,5 +1,8 @@
 """Threads with little stack, each in a process of its own, so that a crash is seen."""
+import _thread
 import subprocess
+import sys
+import threading
 import unittest
 from unittest import mock
 
@@ -65,6 +68,118 @@ thread.start()
 thread.join()
 """
 
+# Counts the threads that Python started from one.
+COUNTED = """
+import _thread
+from mldsa import _stack
+print(_stack.on_own_thread(0, _thread._count, []))
+"""
+# Ends while daemon threads with a stack of so many bytes sign.
+AT_EXIT = """
+import sys, threading, time
+from mldsa import *
+key = MLDSA65PrivateKey.from_seed_bytes(bytes(range(32)))
+def calls():
+    while True:
+        key.sign(b"m")
+threading.stack_size(int(sys.argv[1]))
+for _ in range(4):
+    threading.Thread(target=calls, daemon=True).start()
+time.sleep(0.05)
+print("ended")
+"""
+# Signs on threads of their own after the first thread has ended, and then when all have.
+AFTER_THE_FIRST = """
+import atexit, threading
+from unittest import mock
+from mldsa import *
+from mldsa import _stack
+key = MLDSA44PrivateKey.from_seed_bytes(bytes(range(32)))
+def calls():
+    threading.main_thread().join()
+    key.public_key().verify(key.sign(b"m"), b"m")
+    print("signed")
+threading.stack_size(65536)
+threading.Thread(target=calls).start()
+def last():
+    with mock.patch.object(_stack, "left", return_value=0):
+        key.public_key().verify(key.sign(b"m"), b"m")
+    print("signed")
+atexit.register(last)
+"""
+# Signs on a thread of its own after Python began to end.
+LATE = """
+from mldsa import *
+from mldsa import _stack
+class Late:
+    def __init__(self):
+        self.key, self.stack = MLDSA44PrivateKey.from_seed_bytes(bytes(range(32))), _stack
+    def __del__(self):
+        self.stack.left = lambda: 0
+        try:
+            self.key.sign(b"m")
+        except OSError as error:
+            print(error)
+late = Late()
+"""
+# Forks while another thread has changed the size of stacks. The child prints the size, and signs.
+FORKED = """
+import _thread, os, signal, threading, time
+from unittest import mock
+from mldsa import *
+from mldsa import _stack
+key = MLDSA44PrivateKey.from_seed_bytes(bytes(range(32)))
+begin, changed = _thread.start_new_thread, threading.Event()
+def slow(*words):
+    changed.set()
+    time.sleep(0.5)
+    return begin(*words)
+threading.stack_size(131072)
+with mock.patch.object(_stack, "left", return_value=0):
+    with mock.patch("_thread.start_new_thread", slow):
+        thread = threading.Thread(target=key.sign, args=(b"m",))
+        begin(key.sign, (b"m",))
+        changed.wait()
+        child = os.fork()
+    if not child:
+        signal.alarm(60)
+        key.sign(b"m")
+        print(threading.stack_size(), flush=True)
+        os._exit(0)
+    os.waitpid(child, 0)
+"""
+# A signal handler forks while the first thread waits for a call. Parent and child get its result.
+FORKED_BY_HANDLER = """
+import os, signal, time
+from mldsa import _stack
+children = []
+def call():
+    time.sleep(0.5)
+    return "done"
+def fork(*_):
+    children.append(os.fork())
+    if not children[0]:
+        signal.signal(signal.SIGALRM, signal.SIG_DFL)
+        signal.alarm(60)
+signal.signal(signal.SIGALRM, fork)
+signal.setitimer(signal.ITIMER_REAL, 0.1)
+print(_stack.on_own_thread(0, call, []), flush=True)
+if children[0]:
+    os.waitpid(children[0], 0)
+"""
+# A signal handler copies the hasher that the first thread updates.
+COPIED_BY_HANDLER = """
+import signal
+from mldsa import *
+hasher, copies = MLDSA44PrivateKey.from_seed_bytes(bytes(range(32))).hasher(), []
+signal.signal(signal.SIGALRM, lambda *_: copies.append(hasher.copy().mu()))
+signal.setitimer(signal.ITIMER_REAL, 0.01, 0.01)
+piece = bytes(1 << 22)
+while len(copies) < 5:
+    hasher.update(piece)
+print("copied")
+"""
+
 
 # The calls that need each of the stacks that c/mldsa.h states.
 CALLS_OF_STACK = {
@@ -80,8 +195,15 @@ def printed(code, *words, limit=None):
     """What a program prints; with a limit in KiB for the stack of its first thread."""
     front = ["sh", "-c", f'ulimit -s {limit}; exec "$@"', "sh"] if limit else []
     done = subprocess.run([*front, *PYTHON, "-c", code, *map(str, words)], cwd="/", capture_output=True, text=True,
-                          check=False)
+                          check=False, timeout=600)
     return done.stdout.strip() or f"status {done.returncode}: {done.stderr}"
+
+
+def size_of_stacks():
+    """The size of the stacks of new threads: to ask for it sets another one."""
+    found = threading.stack_size()
+    threading.stack_size(found)
+    return found
 
 
 class Stacks(unittest.TestCase):
@@ -115,16 +237,57 @@ class Stacks(unittest.TestCase):
         self.assertEqual(signature, key.sign(b"m", deterministic=True))
 
     def test_no_thread_can_be_started(self):
-        key = PRIVATE[44].from_seed_bytes(SEED)
-        with mock.patch.object(_stack, "left", return_value=0), mock.patch.object(_stack, "_create", return_value=11):
-            self.assertRaisesRegex(OSError, "too little stack, and no thread with .* bytes could be started", key.sign,
-                                   b"m")
-        self.assertEqual(_stack._jobs, {})
+        key, said = PRIVATE[44].from_seed_bytes(SEED), "too little stack, and no thread with .* bytes could be started"
+        self.addCleanup(threading.stack_size, threading.stack_size(131072))
+        for call, error in (("_thread.start_new_thread", RuntimeError), ("threading.stack_size", ValueError)):
+            with mock.patch.object(_stack, "left", return_value=0), mock.patch(call, side_effect=error), \
+                    mock.patch.object(_stack, "_begin_foreign", return_value=_stack._NONE):
+                self.assertRaisesRegex(OSError, said, key.sign, b"m")
+            self.assertEqual((size_of_stacks(), _stack._waiting.jobs, _stack._foreign), (131072, [], {}))
 
     def test_faults_of_another_thread(self):
         self.assertRaises(ZeroDivisionError, _stack.on_own_thread, 0, lambda: 1 // 0, [])
+        self.assertRaises(SystemExit, _stack.on_own_thread, 0, sys.exit, [])
         self.assertEqual(_stack.on_own_thread(0, lambda one, two: one + two, [1, 2]), 3)
-        self.assertEqual(_stack._jobs, {})
+        self.assertEqual(_stack._waiting.jobs, [])
+
+    def test_the_thread_is_one_of_python(self):
+        """Which counts the threads that it started, and no other."""
+        self.assertEqual(printed(COUNTED), "1")
+
+    def test_size_of_other_stacks(self):
+        """The size that the program chose comes back, and meanwhile it is not smaller."""
+        self.addCleanup(threading.stack_size, threading.stack_size())
+        needed = 200000 + _stack._BESIDE
+        for size, wanted in ((131072, needed), (1 << 20, 1 << 20), (0, 0 if _stack._DEFAULT >= needed else needed)):
+            for set_meanwhile in (None, 1 << 18):
+                sizes, begin = [], _thread.start_new_thread
+
+                def begun(*words, sizes=sizes, begin=begin, set_meanwhile=set_meanwhile):
+                    sizes.append(size_of_stacks())
+                    if set_meanwhile:
+                        threading.stack_size(set_meanwhile)
+                    return begin(*words)
+
+                threading.stack_size(size)
+                with mock.patch("_thread.start_new_thread", begun):
+                    _stack.on_own_thread(200000, int, [])
+                self.assertEqual((sizes, size_of_stacks()), ([wanted], set_meanwhile or size))
+
+    def test_at_exit(self):
+        for size in (65536, 131072):
+            for _ in range(3):
+                self.assertEqual(printed(AT_EXIT, size), "ended")
+        self.assertEqual(printed(AFTER_THE_FIRST), "signed\nsigned")
+        said = "too little stack, and no thread with "
+        self.assertIn(said, printed(LATE))
+
+    def test_forks(self):
+        self.assertEqual(printed(FORKED), "131072")
+        self.assertEqual(printed(FORKED_BY_HANDLER), "done\ndone")
+
+    def test_handler_that_copies(self):
+        self.assertEqual(printed(COPIED_BY_HANDLER), "copied")
 
     def test_each_call_has_its_stack(self):
         numbers = _library.NUMBERS

@@ -62,7 +62,7 @@ where
     /// The bytes are not the DER of a public key of this set; the text is a sentence about "it", the file.
     ///
     /// ```
-    /// # #[cfg(feature = "ml-dsa-65")] {
+    /// # #[cfg(feature = "ml-dsa-65-bare")] {
     /// use fips204::ml_dsa_65::{KG, PublicKey};
     /// use fips204::traits::{KeyGen, SerDes};
     ///
@@ -86,7 +86,7 @@ where
     /// `der` has another length.
     ///
     /// ```
-    /// # #[cfg(feature = "ml-dsa-65")] {
+    /// # #[cfg(feature = "ml-dsa-65-bare")] {
     /// use fips204::ml_dsa_65::{KG, PublicKey};
     /// use fips204::traits::{KeyGen, SerDes};
     ///
@@ -122,7 +122,7 @@ where
     /// about "it", the file.
     ///
     /// ```
-    /// # #[cfg(feature = "ml-dsa-65")] {
+    /// # #[cfg(feature = "ml-dsa-65-bare")] {
     /// use fips204::ml_dsa_65::{KG, PrivateKey};
     /// use fips204::traits::{KeyGen, SerDes};
     ///
@@ -146,7 +146,7 @@ where
     /// Those of `from_der`; or it has no seed.
     ///
     /// ```
-    /// # #[cfg(feature = "ml-dsa-65")] {
+    /// # #[cfg(feature = "ml-dsa-65-bare")] {
     /// use fips204::ml_dsa_65::PrivateKey;
     ///
     /// let seed = [7; 32]; // a seed is secret, and random
@@ -168,7 +168,7 @@ where
     /// None is known.
     ///
     /// ```
-    /// # #[cfg(feature = "ml-dsa-65")] {
+    /// # #[cfg(feature = "ml-dsa-65-bare")] {
     /// use fips204::ml_dsa_65::PrivateKey;
     ///
     /// let seed = [7; 32]; // a seed is secret, and random
@@ -190,7 +190,7 @@ where
     /// `der` has another length, or `is_pair` of the key is false.
     ///
     /// ```
-    /// # #[cfg(feature = "ml-dsa-65")] {
+    /// # #[cfg(feature = "ml-dsa-65-bare")] {
     /// use fips204::ml_dsa_65::{KG, PrivateKey};
     /// use fips204::traits::{KeyGen, SerDes};
     ///
@@ -213,7 +213,7 @@ where
     /// `der` has another length.
     ///
     /// ```
-    /// # #[cfg(feature = "ml-dsa-65")] {
+    /// # #[cfg(feature = "ml-dsa-65-bare")] {
     /// use fips204::ml_dsa_65::PrivateKey;
     ///
     /// let seed = [7; 32]; // a seed is secret, and random
@@ -345,7 +345,7 @@ mod pem {
         /// The text is not the PEM of a public key of this set.
         ///
         /// ```
-        /// # #[cfg(all(feature = "ml-dsa-65", feature = "default-rng"))] {
+        /// # #[cfg(all(feature = "ml-dsa-65-bare", feature = "default-rng"))] {
         /// use fips204::ml_dsa_65::{KG, PublicKey};
         /// use fips204::traits::{KeyGen, SerDes};
         ///
@@ -366,7 +366,7 @@ mod pem {
         /// None is known.
         ///
         /// ```
-        /// # #[cfg(all(feature = "ml-dsa-65", feature = "default-rng"))] {
+        /// # #[cfg(all(feature = "ml-dsa-65-bare", feature = "default-rng"))] {
         /// use fips204::ml_dsa_65::{KG, PublicKey};
         /// use fips204::traits::{KeyGen, SerDes};
         ///
@@ -395,7 +395,7 @@ mod pem {
         /// The text is not the PEM of a private key of this set, or its parts do not belong together.
         ///
         /// ```
-        /// # #[cfg(all(feature = "ml-dsa-65", feature = "default-rng"))] {
+        /// # #[cfg(all(feature = "ml-dsa-65-bare", feature = "default-rng"))] {
         /// use fips204::ml_dsa_65::{KG, PrivateKey};
         /// use fips204::traits::{KeyGen, SerDes};
         ///
@@ -416,7 +416,7 @@ mod pem {
         /// Those of `from_pem`; or it has no seed.
         ///
         /// ```
-        /// # #[cfg(all(feature = "ml-dsa-65", feature = "default-rng"))] {
+        /// # #[cfg(all(feature = "ml-dsa-65-bare", feature = "default-rng"))] {
         /// use fips204::ml_dsa_65::PrivateKey;
         ///
         /// let seed = [7; 32]; // a seed is secret, and random
@@ -436,7 +436,7 @@ mod pem {
         /// None is known.
         ///
         /// ```
-        /// # #[cfg(all(feature = "ml-dsa-65", feature = "default-rng"))] {
+        /// # #[cfg(all(feature = "ml-dsa-65-bare", feature = "default-rng"))] {
         /// use fips204::ml_dsa_65::{KG, PrivateKey};
         /// use fips204::traits::{KeyGen, SerDes};
         ///
@@ -463,7 +463,7 @@ mod pem {
         /// `is_pair` of the key is false.
         ///
         /// ```
-        /// # #[cfg(all(feature = "ml-dsa-65", feature = "default-rng"))] {
+        /// # #[cfg(all(feature = "ml-dsa-65-bare", feature = "default-rng"))] {
         /// use fips204::ml_dsa_65::{KG, PrivateKey};
         /// use fips204::traits::{KeyGen, SerDes};
         ///

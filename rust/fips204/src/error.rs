@@ -26,6 +26,12 @@ pub(crate) fn why(refusal: Refusal) -> &'static str {
     }
 }
 
+/// What a call returned that has no error. It panics where there is none, and says the call's name and the fault.
+#[allow(dead_code)] // no set may be chosen
+pub(crate) fn ended<T>(call: &str, made: Result<T, &'static str>) -> T {
+    made.unwrap_or_else(|fault| panic!("{call}: {fault}"))
+}
+
 impl core::fmt::Display for Refusal {
     fn fmt(&self, f: &mut core::fmt::Formatter<'_>) -> core::fmt::Result {
         f.write_str(text(*self))
@@ -67,7 +73,7 @@ mod tests {
 /// the other, and this one into a `Box<dyn Error>` and its like.
 ///
 /// ```
-/// # #[cfg(feature = "ml-dsa-65")] {
+/// # #[cfg(feature = "ml-dsa-65-bare")] {
 /// use fips204::ml_dsa_65::{KG, PrivateKey};
 /// use fips204::traits::{KeyGen, Signer};
 ///
@@ -88,7 +94,7 @@ impl Error {
     /// The text of the error. If the library rejected a call, it is the text that `mldsa_text` has in C.
     ///
     /// ```
-    /// # #[cfg(feature = "ml-dsa-65")] {
+    /// # #[cfg(feature = "ml-dsa-65-bare")] {
     /// let refused = fips204::ml_dsa_65::PublicKey::try_from(&[0; 7][..]);
     /// assert_eq!(refused.unwrap_err().as_str(), "an array has the wrong length");
     /// # }

@@ -1,9 +1,9 @@
 #![cfg_attr(
-    all(feature = "ml-dsa-65", feature = "default-rng"),
+    all(feature = "ml-dsa-65-bare", feature = "default-rng"),
     doc = include_str!("../README.md")
 )]
 #![cfg_attr(
-    not(all(feature = "ml-dsa-65", feature = "default-rng")),
+    not(all(feature = "ml-dsa-65-bare", feature = "default-rng")),
     doc = "ML-DSA (FIPS 204) with the interface of the crate fips204 0.5.0."
 )]
 #![cfg_attr(not(feature = "default-rng"), no_std)]
@@ -16,14 +16,20 @@ extern crate std;
 
 mod der;
 mod error;
+#[cfg(feature = "pkcs8")]
+mod key_info;
 mod levels;
+mod params;
 mod pieces;
 pub mod pre_hash;
 mod prepared;
+// (laid out as its source is)
 #[cfg(not(feature = "__proved"))]
+#[rustfmt::skip]
 mod proved;
 #[cfg(feature = "__proved")]
 #[doc(hidden)]
+#[rustfmt::skip]
 pub mod proved;
 #[cfg(feature = "__proved")]
 #[doc(hidden)]
@@ -34,7 +40,7 @@ mod set;
 #[cfg(feature = "sha2")]
 #[doc(hidden)] // for tests of the repository
 pub mod sha2_arrays;
-#[cfg(feature = "signature")]
+#[cfg(any(feature = "signature", feature = "signature-3", feature = "pkcs8"))]
 mod signatures;
 mod simd;
 pub mod traits;
@@ -42,18 +48,27 @@ mod wiped;
 pub mod xofs;
 
 pub use error::Error;
+#[cfg(feature = "ml-dsa-44-bare")]
+pub use params::MlDsa44;
+#[cfg(feature = "ml-dsa-65-bare")]
+pub use params::MlDsa65;
+#[cfg(feature = "ml-dsa-87-bare")]
+pub use params::MlDsa87;
+pub use params::MlDsaParams;
 pub use pieces::MessageHasher;
 #[cfg(feature = "rand_core")]
 pub use rand_core::{CryptoRng, Error as RngError, RngCore};
 #[cfg(feature = "rand_core")]
 pub use rng::FillRng;
+#[cfg(feature = "rand_core-0_10")]
+pub use rng::of_rand_core_0_10;
 pub use set::{PrivateKey, PublicKey};
 
 /// How many bytes of stack the calls of a [`MessageHasher`] take at most, and those that begin one.
 pub const STACK_MU: usize = 3_328;
 
 /// ML-DSA-44, of security category 2.
-#[cfg(feature = "ml-dsa-44")]
+#[cfg(feature = "ml-dsa-44-bare")]
 pub mod ml_dsa_44 {
     crate::set::parameter_set!("ml_dsa_44", MlDsa44, 1312, 2560, 2420);
     crate::prepared::prepared_keys!("ml_dsa_44", 17760, 18944);
@@ -74,7 +89,7 @@ pub mod ml_dsa_44 {
 }
 
 /// ML-DSA-65, of security category 3.
-#[cfg(feature = "ml-dsa-65")]
+#[cfg(feature = "ml-dsa-65-bare")]
 pub mod ml_dsa_65 {
     crate::set::parameter_set!("ml_dsa_65", MlDsa65, 1952, 4032, 3309);
     crate::prepared::prepared_keys!("ml_dsa_65", 32736, 34752);
@@ -95,7 +110,7 @@ pub mod ml_dsa_65 {
 }
 
 /// ML-DSA-87, of security category 5.
-#[cfg(feature = "ml-dsa-87")]
+#[cfg(feature = "ml-dsa-87-bare")]
 pub mod ml_dsa_87 {
     crate::set::parameter_set!("ml_dsa_87", MlDsa87, 2592, 4896, 4627);
     crate::prepared::prepared_keys!("ml_dsa_87", 60000, 62240);

@@ -1,7 +1,7 @@
 //! Messages that come in pieces.
 
 use crate::Error;
-use crate::error::{WIPED, why};
+use crate::error::{WIPED, ended, why};
 use crate::proved::fips204_shake::bytes::{Refusal, SetName};
 use crate::proved::fips204_shake::pieces::{self, SAVED_LEN};
 use crate::wiped::{Wiped, shows_nothing};
@@ -10,7 +10,7 @@ use crate::wiped::{Wiped, shows_nothing};
 /// whole message. It is begun by `message_hasher` of a key. With the feature `default-rng` it is an `io::Write`.
 ///
 /// ```
-/// # #[cfg(all(feature = "ml-dsa-65", feature = "default-rng"))] {
+/// # #[cfg(all(feature = "ml-dsa-65-bare", feature = "default-rng"))] {
 /// use fips204::ml_dsa_65;
 /// use fips204::traits::Signer;
 ///
@@ -68,7 +68,7 @@ impl MessageHasher {
     /// The hasher was wiped by `zeroize`.
     ///
     /// ```
-    /// # #[cfg(feature = "ml-dsa-65")] {
+    /// # #[cfg(feature = "ml-dsa-65-bare")] {
     /// # use fips204::{ml_dsa_65::KG, traits::KeyGen};
     /// # let (public, _) = KG::keygen_from_seed(&[7; 32]);
     /// let mut cut = public.message_hasher(b"a context")?;
@@ -82,7 +82,7 @@ impl MessageHasher {
     /// # Ok::<(), &'static str>(())
     /// ```
     pub fn update(&mut self, piece: &[u8]) {
-        self.add(piece).unwrap();
+        ended("update", self.add(piece));
     }
 
     /// The hash `mu` of the message. Takes [`STACK_MU`](crate::STACK_MU) bytes of stack.
@@ -91,7 +91,7 @@ impl MessageHasher {
     /// The hasher was wiped by `zeroize`.
     ///
     /// ```
-    /// # #[cfg(feature = "ml-dsa-65")] {
+    /// # #[cfg(feature = "ml-dsa-65-bare")] {
     /// # use fips204::{ml_dsa_65::KG, traits::KeyGen};
     /// # let (public, _) = KG::keygen_from_seed(&[7; 32]);
     /// let mut hasher = public.message_hasher(b"a context")?;
@@ -104,7 +104,7 @@ impl MessageHasher {
     /// ```
     #[must_use]
     pub fn finalize(self) -> [u8; 64] {
-        self.hasher().unwrap().finalize()
+        ended("finalize", self.hasher()).finalize()
     }
 }
 

@@ -2,7 +2,11 @@
 
 /// The prepared keys of a parameter set, in the module of `parameter_set`: the module's name, and the lengths of a prepared public
 /// and a prepared private key.
-#[cfg(any(feature = "ml-dsa-44", feature = "ml-dsa-65", feature = "ml-dsa-87"))]
+#[cfg(any(
+    feature = "ml-dsa-44-bare",
+    feature = "ml-dsa-65-bare",
+    feature = "ml-dsa-87-bare"
+))]
 macro_rules! prepared_keys {
     ($name:literal, $public_len:literal, $private_len:literal) => {
         /// A public key with its matrix, which verifies in less time, and is wiped when it is dropped. Its calls return what the calls
@@ -43,7 +47,7 @@ macro_rules! prepared_keys {
                 let mut prepared = PreparedPublicKey(held());
                 let place = prepared.0.array_mut();
                 let made = AnySet::prepare_public_key(Self::SET, self.0.given(), place);
-                made.map_err(why).unwrap();
+                ended("prepare", made.map_err(why));
                 prepared
             }
         }
@@ -71,7 +75,7 @@ macro_rules! prepared_keys {
                 let mut prepared = PreparedPrivateKey(held());
                 let place = prepared.0.array_mut();
                 let made = AnySet::prepare_private_key(Self::SET, self.0.given(), place);
-                made.map_err(why).unwrap();
+                ended("prepare", made.map_err(why));
                 prepared
             }
         }
@@ -314,5 +318,9 @@ macro_rules! prepared_keys {
     };
 }
 
-#[cfg(any(feature = "ml-dsa-44", feature = "ml-dsa-65", feature = "ml-dsa-87"))]
+#[cfg(any(
+    feature = "ml-dsa-44-bare",
+    feature = "ml-dsa-65-bare",
+    feature = "ml-dsa-87-bare"
+))]
 pub(crate) use prepared_keys;

@@ -9,7 +9,7 @@ use core::num::NonZeroU32;
 /// says whether it could; it has to be fit for cryptography.
 ///
 /// ```
-/// # #[cfg(feature = "ml-dsa-65")] {
+/// # #[cfg(feature = "ml-dsa-65-bare")] {
 /// use fips204::{FillRng, ml_dsa_65};
 ///
 /// /// Stands for a call of your device's driver.
@@ -57,10 +57,31 @@ impl<F> core::fmt::Debug for FillRng<F> {
     }
 }
 
+/// A generator of `rand_core` 0.10 as one that the calls here take. Takes no stack of its own.
+///
+/// ```
+/// # #[cfg(feature = "ml-dsa-65-bare")] {
+/// use fips204::ml_dsa_65::try_keygen_with_rng;
+/// use rand_core_0_10::TryCryptoRng; // the crate rand_core, of version 0.10
+///
+/// # fn example(your_generator: &mut impl TryCryptoRng) -> Result<(), &'static str> {
+/// let (public, private) = try_keygen_with_rng(&mut fips204::of_rand_core_0_10(your_generator))?;
+/// # let _ = (public, private);
+/// # Ok(())
+/// # }
+/// # }
+/// ```
+#[cfg(feature = "rand_core-0_10")]
+pub fn of_rand_core_0_10(
+    rng: &mut (impl rand_core_0_10::TryCryptoRng + ?Sized),
+) -> impl RngCore + CryptoRng {
+    FillRng(|out: &mut [u8]| rng.try_fill_bytes(out).is_ok())
+}
+
 /// The operating system's generator.
 #[cfg(feature = "default-rng")]
 pub(crate) fn system() -> impl RngCore + CryptoRng {
-    FillRng(|out: &mut [u8]| getrandom::getrandom(out).is_ok())
+    rand_core::OsRng
 }
 
 /// A generator that gives these bytes, to whoever asks for as many.

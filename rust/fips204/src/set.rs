@@ -2,7 +2,7 @@
 #![allow(dead_code)] // no set may be chosen
 
 use crate::Error;
-use crate::error::{WRONG_LENGTH, why};
+use crate::error::{WRONG_LENGTH, ended, why};
 use crate::pieces::MessageHasher;
 use crate::proved::fips204_shake::AnySet;
 use crate::proved::fips204_shake::bytes::{Input, Refusal, SetName};
@@ -58,7 +58,7 @@ pub(crate) fn public_key<const PK: usize, const SK: usize, const SIG: usize>(
 ) -> PublicKey<PK, SK, SIG> {
     let mut public = PublicKey(Wiped::zeros());
     let made = AnySet::public_key(set, private, public.0.array_mut());
-    made.map_err(why).unwrap();
+    ended("get_public_key", made.map_err(why));
     public
 }
 
@@ -91,7 +91,7 @@ where
     /// The bytes of the key, in the place where it keeps them. If the key was wiped they are zeros, which you must not read as a key.
     ///
     /// ```
-    /// # #[cfg(feature = "ml-dsa-65")] {
+    /// # #[cfg(feature = "ml-dsa-65-bare")] {
     /// use fips204::ml_dsa_65::{KG, PrivateKey};
     /// use fips204::traits::KeyGen;
     ///
@@ -113,7 +113,7 @@ where
     /// The key was wiped; or rejection sampling reached its limit, for which no key is known.
     ///
     /// ```
-    /// # #[cfg(feature = "ml-dsa-65")] {
+    /// # #[cfg(feature = "ml-dsa-65-bare")] {
     /// use fips204::ml_dsa_65::{KG, PrivateKey, SK_LEN};
     /// use fips204::traits::{KeyGen, SerDes};
     ///
@@ -137,7 +137,7 @@ where
     /// The key was wiped; or rejection sampling reached its limit, for which no key is known.
     ///
     /// ```
-    /// # #[cfg(feature = "ml-dsa-65")] {
+    /// # #[cfg(feature = "ml-dsa-65-bare")] {
     /// use fips204::ml_dsa_65::{KG, PrivateKey};
     /// use fips204::traits::{KeyGen, SerDes};
     ///
@@ -159,7 +159,7 @@ where
     /// The context has more than 255 bytes, or the key was wiped.
     ///
     /// ```
-    /// # #[cfg(feature = "ml-dsa-65")] {
+    /// # #[cfg(feature = "ml-dsa-65-bare")] {
     /// use fips204::ml_dsa_65::KG;
     /// use fips204::traits::{KeyGen, Signer};
     ///
@@ -185,7 +185,7 @@ where
     /// reached its limit, for which no key is known.
     ///
     /// ```
-    /// # #[cfg(all(feature = "ml-dsa-65", feature = "default-rng"))] {
+    /// # #[cfg(all(feature = "ml-dsa-65-bare", feature = "default-rng"))] {
     /// use fips204::ml_dsa_65::try_keygen;
     ///
     /// let (public, private) = try_keygen()?;
@@ -209,7 +209,7 @@ where
     /// reached its limit, for which no key is known.
     ///
     /// ```
-    /// # #[cfg(feature = "ml-dsa-65")] {
+    /// # #[cfg(feature = "ml-dsa-65-bare")] {
     /// # use fips204::{CryptoRng, RngCore};
     /// use fips204::ml_dsa_65::PrivateKey;
     ///
@@ -240,7 +240,7 @@ where
     /// which no key is known.
     ///
     /// ```
-    /// # #[cfg(feature = "ml-dsa-65")] {
+    /// # #[cfg(feature = "ml-dsa-65-bare")] {
     /// use fips204::ml_dsa_65::KG;
     /// use fips204::traits::{KeyGen, Signer};
     ///
@@ -266,7 +266,7 @@ where
     /// Those of `try_sign_mu_with_rng`.
     ///
     /// ```
-    /// # #[cfg(feature = "ml-dsa-65")] {
+    /// # #[cfg(feature = "ml-dsa-65-bare")] {
     /// use fips204::ml_dsa_65::KG;
     /// use fips204::{FillRng, traits::KeyGen};
     ///
@@ -296,7 +296,7 @@ impl<const PK: usize, const SK: usize, const SIG: usize> PublicKey<PK, SK, SIG> 
     /// The bytes of the key, in the place where it keeps them. If the key was wiped they are zeros, which you must not read as a key.
     ///
     /// ```
-    /// # #[cfg(feature = "ml-dsa-65")] {
+    /// # #[cfg(feature = "ml-dsa-65-bare")] {
     /// use fips204::ml_dsa_65::{KG, PublicKey};
     /// use fips204::traits::KeyGen;
     ///
@@ -313,7 +313,7 @@ impl<const PK: usize, const SK: usize, const SIG: usize> PublicKey<PK, SK, SIG> 
     /// A copy of the bytes of the key, which stays: of a key that was wiped zeros, as of `as_bytes`.
     ///
     /// ```
-    /// # #[cfg(feature = "ml-dsa-65")] {
+    /// # #[cfg(feature = "ml-dsa-65-bare")] {
     /// use fips204::ml_dsa_65::KG;
     /// use fips204::traits::{KeyGen, SerDes};
     ///
@@ -344,7 +344,7 @@ where
     /// The context has more than 255 bytes, or the key was wiped.
     ///
     /// ```
-    /// # #[cfg(feature = "ml-dsa-65")] {
+    /// # #[cfg(feature = "ml-dsa-65-bare")] {
     /// use fips204::ml_dsa_65::KG;
     /// use fips204::traits::{KeyGen, Signer};
     ///
@@ -365,7 +365,7 @@ where
     /// wiped. Takes `stack::VERIFY` bytes of stack.
     ///
     /// ```
-    /// # #[cfg(feature = "ml-dsa-65")] {
+    /// # #[cfg(feature = "ml-dsa-65-bare")] {
     /// use fips204::ml_dsa_65::KG;
     /// use fips204::traits::KeyGen;
     ///
@@ -513,7 +513,11 @@ impl<const PK: usize, const SK: usize, const SIG: usize> core::hash::Hash
 }
 
 /// The items of a set's module: its name, that of the set, and the lengths of a public key, a private key and a signature.
-#[cfg(any(feature = "ml-dsa-44", feature = "ml-dsa-65", feature = "ml-dsa-87"))]
+#[cfg(any(
+    feature = "ml-dsa-44-bare",
+    feature = "ml-dsa-65-bare",
+    feature = "ml-dsa-87-bare"
+))]
 macro_rules! parameter_set {
     ($name:literal, $set:ident, $pk_len:literal, $sk_len:literal, $sig_len:literal) => {
         use crate::pieces::MessageHasher;
@@ -521,7 +525,7 @@ macro_rules! parameter_set {
         use crate::traits::{KeyGen, Signer, Verifier};
         use crate::wiped::{Held, Wiped, held, shows_nothing};
         use crate::Error;
-        use crate::error::why;
+        use crate::error::{ended, why};
         use crate::proved::fips204_shake::bytes::{Input, SetName};
         use crate::proved::fips204_shake::AnySet;
         #[cfg(feature = "rand_core")]
@@ -540,8 +544,8 @@ macro_rules! parameter_set {
         /// A public key, which is wiped when it is dropped.
         pub type PublicKey = set::PublicKey<PK_LEN, SK_LEN, SIG_LEN>;
 
-        /// A signature, for the traits of `signature`; all other calls take and return its array.
-        #[cfg(feature = "signature")]
+        /// A signature, for the traits of `signature` and `spki`; all other calls take and return its array.
+        #[cfg(any(feature = "signature", feature = "signature-3", feature = "pkcs8"))]
         pub type Signature = crate::signatures::Signature<SIG_LEN>;
 
         impl Named for Set<PK_LEN, SK_LEN, SIG_LEN> {
@@ -599,14 +603,18 @@ macro_rules! parameter_set {
             /// # Panics
             /// Rejection sampling reached its limit, for which no seed is known.
             fn keygen_from_seed(xi: &[u8; 32]) -> (PublicKey, PrivateKey) {
-                set::keygen(xi).unwrap()
+                ended("keygen_from_seed", set::keygen(xi))
             }
         }
     };
 }
 
 /// The stack that the calls of a set take, as a module of its own.
-#[cfg(any(feature = "ml-dsa-44", feature = "ml-dsa-65", feature = "ml-dsa-87"))]
+#[cfg(any(
+    feature = "ml-dsa-44-bare",
+    feature = "ml-dsa-65-bare",
+    feature = "ml-dsa-87-bare"
+))]
 macro_rules! stack {
     ($($call:ident: $bytes:literal,)*) => {
         /// How many bytes of stack the calls take at most, as `mldsa.h` says for C, if the crate is compiled with optimisation.
@@ -621,5 +629,9 @@ macro_rules! stack {
     };
 }
 
-#[cfg(any(feature = "ml-dsa-44", feature = "ml-dsa-65", feature = "ml-dsa-87"))]
+#[cfg(any(
+    feature = "ml-dsa-44-bare",
+    feature = "ml-dsa-65-bare",
+    feature = "ml-dsa-87-bare"
+))]
 pub(crate) use {parameter_set, stack};

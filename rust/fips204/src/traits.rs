@@ -45,7 +45,7 @@ pub trait KeyGen {
     /// Rejection sampling reached its limit, for which no seed is known.
     ///
     /// ```
-    /// # #[cfg(all(feature = "ml-dsa-65", feature = "default-rng"))] {
+    /// # #[cfg(all(feature = "ml-dsa-65-bare", feature = "default-rng"))] {
     /// use fips204::{ml_dsa_65, traits::KeyGen}; // or ml_dsa_44, ml_dsa_87
     ///
     /// let (public, private) = ml_dsa_65::KG::try_keygen()?;
@@ -67,7 +67,7 @@ pub trait KeyGen {
     /// Rejection sampling reached its limit, for which no seed is known.
     ///
     /// ```
-    /// # #[cfg(feature = "ml-dsa-65")] {
+    /// # #[cfg(feature = "ml-dsa-65-bare")] {
     /// # use fips204::{CryptoRng, RngCore};
     /// use fips204::{ml_dsa_65, traits::KeyGen};
     ///
@@ -94,7 +94,7 @@ pub trait KeyGen {
     /// Rejection sampling reached its limit, for which no seed is known.
     ///
     /// ```
-    /// # #[cfg(feature = "ml-dsa-65")] {
+    /// # #[cfg(feature = "ml-dsa-65-bare")] {
     /// use fips204::ml_dsa_65::KG;
     /// use fips204::traits::{KeyGen, SerDes};
     ///
@@ -127,7 +127,7 @@ pub trait Signer {
     /// As `try_sign_with_rng`.
     ///
     /// ```
-    /// # #[cfg(all(feature = "ml-dsa-65", feature = "default-rng"))] {
+    /// # #[cfg(all(feature = "ml-dsa-65-bare", feature = "default-rng"))] {
     /// use fips204::ml_dsa_65;
     /// use fips204::traits::{Signer, Verifier};
     ///
@@ -149,7 +149,7 @@ pub trait Signer {
     /// attempts were rejected, as with a damaged key, or rejection sampling reached its limit, for which no key is known.
     ///
     /// ```
-    /// # #[cfg(feature = "ml-dsa-65")] {
+    /// # #[cfg(feature = "ml-dsa-65-bare")] {
     /// # use fips204::{CryptoRng, RngCore};
     /// use fips204::{ml_dsa_65, traits::Signer};
     ///
@@ -182,7 +182,7 @@ pub trait Signer {
         /// Those of `try_sign_with_rng`, without a generator's.
         ///
         /// ```
-        /// # #[cfg(feature = "ml-dsa-65")] {
+        /// # #[cfg(feature = "ml-dsa-65-bare")] {
         /// use fips204::ml_dsa_65::KG;
         /// use fips204::traits::{KeyGen, Signer};
         ///
@@ -212,7 +212,7 @@ pub trait Signer {
     /// As `try_hash_sign_with_rng`.
     ///
     /// ```
-    /// # #[cfg(all(feature = "ml-dsa-65", feature = "default-rng"))] {
+    /// # #[cfg(all(feature = "ml-dsa-65-bare", feature = "default-rng"))] {
     /// use fips204::traits::{Signer, Verifier};
     /// use fips204::{ml_dsa_65, pre_hash};
     ///
@@ -243,7 +243,7 @@ pub trait Signer {
     /// 814 attempts were rejected, or rejection sampling reached its limit, for which no key is known.
     ///
     /// ```
-    /// # #[cfg(feature = "ml-dsa-65")] {
+    /// # #[cfg(feature = "ml-dsa-65-bare")] {
     /// # use fips204::{CryptoRng, RngCore};
     /// use fips204::{ml_dsa_65, pre_hash, traits::Signer};
     ///
@@ -277,7 +277,7 @@ pub trait Signer {
         /// Those of `try_hash_sign_with_rng`, without a generator's.
         ///
         /// ```
-        /// # #[cfg(feature = "ml-dsa-65")] {
+        /// # #[cfg(feature = "ml-dsa-65-bare")] {
         /// use fips204::traits::{KeyGen, Signer};
         /// use fips204::{ml_dsa_65::KG, pre_hash};
         ///
@@ -305,10 +305,11 @@ pub trait Signer {
     /// The public key that belongs to the private one. Takes `stack::PUBLIC_KEY` bytes of stack.
     ///
     /// # Panics
-    /// The key was wiped; or rejection sampling reached its limit, for which no key is known.
+    /// The key was wiped (`get_public_key: the key or the hasher was wiped`); or rejection sampling reached its limit, for which no
+    /// key is known.
     ///
     /// ```
-    /// # #[cfg(feature = "ml-dsa-65")] {
+    /// # #[cfg(feature = "ml-dsa-65-bare")] {
     /// use fips204::ml_dsa_65::KG;
     /// use fips204::traits::{KeyGen, SerDes, Signer};
     ///
@@ -330,7 +331,7 @@ pub trait Verifier {
     /// `stack::VERIFY` bytes of stack.
     ///
     /// ```
-    /// # #[cfg(feature = "ml-dsa-65")] {
+    /// # #[cfg(feature = "ml-dsa-65-bare")] {
     /// use fips204::ml_dsa_65::KG;
     /// use fips204::traits::{KeyGen, Signer, Verifier};
     ///
@@ -348,7 +349,7 @@ pub trait Verifier {
     /// or digest. Takes `stack::VERIFY` bytes of stack.
     ///
     /// ```
-    /// # #[cfg(feature = "ml-dsa-65")] {
+    /// # #[cfg(feature = "ml-dsa-65-bare")] {
     /// use fips204::traits::{KeyGen, Signer, Verifier};
     /// use fips204::{ml_dsa_65::KG, pre_hash};
     ///
@@ -378,7 +379,7 @@ pub trait SerDes {
     /// The bytes of the key. Takes no stack but the array's.
     ///
     /// ```
-    /// # #[cfg(feature = "ml-dsa-65")] {
+    /// # #[cfg(feature = "ml-dsa-65-bare")] {
     /// use fips204::ml_dsa_65::{KG, PK_LEN};
     /// use fips204::traits::{KeyGen, SerDes};
     ///
@@ -396,7 +397,7 @@ pub trait SerDes {
     /// No private key has them. (Every array of the right length is a public key.)
     ///
     /// ```
-    /// # #[cfg(feature = "ml-dsa-65")] {
+    /// # #[cfg(feature = "ml-dsa-65-bare")] {
     /// use fips204::ml_dsa_65::{PrivateKey, PublicKey, PK_LEN, SK_LEN};
     /// use fips204::traits::SerDes;
     ///

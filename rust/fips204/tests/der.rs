@@ -1,9 +1,9 @@
 //! Keys in DER and PEM: as OpenSSL 4.0.0 writes them of the seed 00 01 .. 1F, and what is rejected.
 
 #![cfg(all(
-    feature = "ml-dsa-44",
-    feature = "ml-dsa-65",
-    feature = "ml-dsa-87",
+    feature = "ml-dsa-44-bare",
+    feature = "ml-dsa-65-bare",
+    feature = "ml-dsa-87-bare",
     feature = "default-rng"
 ))]
 

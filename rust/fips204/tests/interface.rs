@@ -60,6 +60,26 @@ fn drawing_errors<K: Signer>(
     ]
 }
 
+/// A generator of a newer `rand_core`, by the line of docs/DIFFERENCES.md.
+#[cfg(feature = "ml-dsa-65-bare")]
+#[test]
+fn newer_generator() {
+    /// Its calls are generic over the error, and of no trait that this crate knows.
+    struct Newer;
+
+    impl Newer {
+        fn try_fill_bytes(&mut self, out: &mut [u8]) -> Result<(), core::convert::Infallible> {
+            out.fill(9);
+            Ok(())
+        }
+    }
+
+    let mut rng = Newer;
+    let mut rng = FillRng(|out: &mut [u8]| rng.try_fill_bytes(out).is_ok());
+    let (public, _) = fips204::ml_dsa_65::try_keygen_with_rng(&mut rng).unwrap();
+    assert_eq!(public, fips204::ml_dsa_65::KG::keygen_from_seed(&[9; 32]).0);
+}
+
 macro_rules! interface {
     ($test:ident, $set:ident, $feature:literal) => {
         #[cfg(feature = $feature)]
@@ -299,9 +319,9 @@ macro_rules! interface {
     };
 }
 
-interface!(set_44, ml_dsa_44, "ml-dsa-44");
-interface!(set_65, ml_dsa_65, "ml-dsa-65");
-interface!(set_87, ml_dsa_87, "ml-dsa-87");
+interface!(set_44, ml_dsa_44, "ml-dsa-44-bare");
+interface!(set_65, ml_dsa_65, "ml-dsa-65-bare");
+interface!(set_87, ml_dsa_87, "ml-dsa-87-bare");
 
 /// A generator of one function is asked for what is wanted, and fails where the function does.
 #[test]

@@ -133,16 +133,20 @@ macro_rules! tests_of_a_set {
                     std::io::Write::write(&mut hasher, b"m").map_err(|it| it.to_string()),
                     Err(WIPED.into())
                 );
-                let panics: [&mut dyn FnMut(); 5] = [
-                    &mut || hasher.clone().update(b"m"),
-                    &mut || assert!(hasher.clone().finalize().is_empty()),
-                    &mut || drop(public.prepare()),
-                    &mut || drop(private.prepare()),
-                    &mut || drop(private.get_public_key()),
+                let panics: [(&str, &mut dyn FnMut()); 6] = [
+                    ("update", &mut || hasher.clone().update(b"m")),
+                    ("finalize", &mut || {
+                        assert!(hasher.clone().finalize().is_empty())
+                    }),
+                    ("prepare", &mut || drop(public.prepare())),
+                    ("prepare", &mut || drop(private.prepare())),
+                    ("get_public_key", &mut || drop(private.get_public_key())),
+                    ("get_public_key", &mut || drop(signs.get_public_key())),
                 ];
-                for call in panics {
+                for (name, call) in panics {
                     let said = catch_unwind(AssertUnwindSafe(call)).unwrap_err();
-                    assert!(said.downcast_ref::<String>().unwrap().contains(WIPED));
+                    let text = said.downcast_ref::<String>().unwrap();
+                    assert_eq!(text, &format!("{name}: {WIPED}"));
                 }
             }
 
@@ -203,9 +207,9 @@ const PLACE: usize = if cfg!(feature = "alloc") {
     256 << 10
 };
 
-tests_of_a_set!(ml_dsa_44, "ml-dsa-44");
-tests_of_a_set!(ml_dsa_65, "ml-dsa-65");
-tests_of_a_set!(ml_dsa_87, "ml-dsa-87");
+tests_of_a_set!(ml_dsa_44, "ml-dsa-44-bare");
+tests_of_a_set!(ml_dsa_65, "ml-dsa-65-bare");
+tests_of_a_set!(ml_dsa_87, "ml-dsa-87-bare");
 
 /// Either error becomes the other by `?`, and ours becomes what programs collect errors in.
 #[test]
@@ -231,7 +235,7 @@ fn sent_and_shared() {
     fn is_shared<T: Send + Sync + 'static>() {}
     is_shared::<Error>();
     is_shared::<fips204::MessageHasher>();
-    #[cfg(feature = "ml-dsa-44")]
+    #[cfg(feature = "ml-dsa-44-bare")]
     {
         use fips204::ml_dsa_44::{PreparedPrivateKey, PreparedPublicKey, PrivateKey, PublicKey};
         is_shared::<(PublicKey, PrivateKey)>();
@@ -240,7 +244,7 @@ fn sent_and_shared() {
 }
 
 /// A signer of one's own has the calls with a seed, and those with a generator of them.
-#[cfg(feature = "ml-dsa-44")]
+#[cfg(feature = "ml-dsa-44-bare")]
 #[test]
 fn signer_by_seeds() {
     use fips204::ml_dsa_44::{KG, PrivateKey, PublicKey, SIG_LEN};

@@ -121,9 +121,9 @@ macro_rules! tests_of_a_set {
     };
 }
 
-#[cfg(feature = "ml-dsa-44")]
+#[cfg(feature = "ml-dsa-44-bare")]
 tests_of_a_set!(set_44, ml_dsa_44);
-#[cfg(feature = "ml-dsa-65")]
+#[cfg(feature = "ml-dsa-65-bare")]
 tests_of_a_set!(set_65, ml_dsa_65);
-#[cfg(feature = "ml-dsa-87")]
+#[cfg(feature = "ml-dsa-87-bare")]
 tests_of_a_set!(set_87, ml_dsa_87);

@@ -17,7 +17,7 @@ unsafe extern "C" {
 const FILES: i32 = 7;
 
 /// What was mounted in the place of a device is not asked.
-#[cfg(feature = "ml-dsa-44")]
+#[cfg(feature = "ml-dsa-44-bare")]
 #[test]
 fn without_a_file() {
     let mut limit = Limit { now: 0, most: 0 };

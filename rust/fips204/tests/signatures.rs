@@ -57,6 +57,6 @@ macro_rules! tests_of_a_set {
     };
 }
 
-tests_of_a_set!(ml_dsa_44, "ml-dsa-44");
-tests_of_a_set!(ml_dsa_65, "ml-dsa-65");
-tests_of_a_set!(ml_dsa_87, "ml-dsa-87");
+tests_of_a_set!(ml_dsa_44, "ml-dsa-44-bare");
+tests_of_a_set!(ml_dsa_65, "ml-dsa-65-bare");
+tests_of_a_set!(ml_dsa_87, "ml-dsa-87-bare");

@@ -5,9 +5,9 @@
 //! tests, so that it builds where there is no registry.
 
 #![cfg(all(
-    feature = "ml-dsa-44",
-    feature = "ml-dsa-65",
-    feature = "ml-dsa-87",
+    feature = "ml-dsa-44-bare",
+    feature = "ml-dsa-65-bare",
+    feature = "ml-dsa-87-bare",
     feature = "default-rng"
 ))]
 

@@ -1,6 +1,6 @@
 //! What keys, and the calls on private keys in PEM, leave in memory that they give back: nothing of the key.
 
-#![cfg(all(feature = "ml-dsa-65", feature = "default-rng"))]
+#![cfg(all(feature = "ml-dsa-65-bare", feature = "default-rng"))]
 
 use fips204::ml_dsa_65::{KG, PrivateKey};
 use fips204::traits::KeyGen;

@@ -95,9 +95,9 @@ macro_rules! tests_of_a_set {
     };
 }
 
-tests_of_a_set!(ml_dsa_44, MlDsa44, "ml-dsa-44");
-tests_of_a_set!(ml_dsa_65, MlDsa65, "ml-dsa-65");
-tests_of_a_set!(ml_dsa_87, MlDsa87, "ml-dsa-87");
+tests_of_a_set!(ml_dsa_44, MlDsa44, "ml-dsa-44-bare");
+tests_of_a_set!(ml_dsa_65, MlDsa65, "ml-dsa-65-bare");
+tests_of_a_set!(ml_dsa_87, MlDsa87, "ml-dsa-87-bare");
 
 /// Prepared keys do what those do that they were made of.
 #[test]
@@ -164,5 +164,38 @@ fn constant_outputs() {
         let refused =
             AnySet::<Fill<0xFF>, Fill<0xFF>>::keygen(set, &[7; 32], &mut public, &mut private);
         assert_eq!(refused, Err(Refusal::Library(Fault::SamplingLimit)));
+    }
+}
+
+/// A generator whose output no sampler takes anything of, and that never says that it is at its end.
+struct Endless;
+
+impl XofReader for Endless {
+    fn left(&self) -> usize {
+        usize::MAX
+    }
+
+    fn read(&mut self, out: &mut [u8]) {
+        out.fill(0xFF);
+    }
+}
+
+impl Xof for Endless {
+    type Reader = Self;
+    const FRONT: usize = 1_048_576;
+
+    fn open(_: &[&[u8]]) -> Self {
+        Endless
+    }
+}
+
+/// However long an output is, sampling ends.
+#[test]
+fn sampling_ends() {
+    use fips204::xofs::ml_dsa_44::KG;
+    let of_the_matrix = KG::<Shake256Stream, Endless>::keygen_from_seed(&[7; 32]);
+    let of_the_secrets = KG::<Endless, Shake128Stream>::keygen_from_seed(&[7; 32]);
+    for fault in [of_the_matrix.err(), of_the_secrets.err()] {
+        assert_eq!(fault, Some(Fault::SamplingLimit));
     }
 }
