@@ -1,5 +1,6 @@
 -- The vectors of an attempt, their norms and hints, and which attempts are kept, check by check.
 use Rattle.std.proofs.Common.{◌≡◌, ◌⊎◌, inl, inr, ℕ, ℤ, pos, negsuc, ◌+◌, ◌-◌, ◌*◌, ◌%◌, ◌<◌, ◌≤◌, ◌+ℤ◌, ◌-ℤ◌, ◌≤ℤ◌, List, length, true, false, arith, refl, ap, sym, ◌∙◌, Bool, ◌&&◌, Ok, Some, None, nat_abs, nat_lt, nat_le, if◌then◌else◌}
+use Rattle.std.proofs.Math.Bool.{and_comm}
 use Rattle.fips204.proofs.Names.{cases_lt, le-leb, lt-leb, ltb-true, ints, R, centred, vector_norm, residue, VectorInRange, coefficient_of, vector_of, IsVector, vector_coefficients, AreSameModQ, product, plus, minus, low_bits, make_hint, centred_is, residue_add, residue_sub, residue_is, residue_below, low_bits_near, product_below, multiple-same, vector_of-ext, vector_of-entry, vector_of-range, PrivateParts, signature_bytes, all_ones, Params, response, low_vector, ct0, hint_vector, passes_checks, w_minus_cs2, ParameterSet, set_of, IsFactorOf, scaled, multiple, y_plus_cs1, hint_bit, checked_attempt}
 use Rattle.fips204.proofs.ChallengeProducts.{norm_of_place}
 use Rattle.fips204.proofs.ParameterSets.{IsKnown, limits}
@@ -68,13 +69,13 @@ hint_bit-is g x t b e =
 
 -- Which attempts are kept, test by test.
 
--- an attempt by the results of its four tests
+-- an attempt by the results of its four tests, in the order of the code
 pub by_tests : (p : ParameterSet) (sk : PrivateParts) (y : List R) (w : ℕ → ℕ → ℕ) (c_tilde : List ℕ) (c : R) {first second third fourth : Bool}
-    → first ≡ nat_lt (vector_norm (response p sk y c)) (p.gamma1 - p.beta) → second ≡ nat_lt (vector_norm (low_vector p sk w c)) (p.gamma2 - p.beta)
+    → first ≡ nat_lt (vector_norm (low_vector p sk w c)) (p.gamma2 - p.beta) → second ≡ nat_lt (vector_norm (response p sk y c)) (p.gamma1 - p.beta)
     → third ≡ nat_lt (vector_norm (ct0 p sk c)) p.gamma2 → fourth ≡ nat_le (length (all_ones (hint_vector p sk w c))) p.omega
     → Ok (if first && second && third && fourth then Some (signature_bytes p.gamma1 p.omega c_tilde (response p sk y c) (hint_vector p sk w c)) else None) ≡ checked_attempt p sk y w c_tilde (Some c)
 unfolding passes_checks
-by_tests p sk y w c_tilde c e f h i = rw (e, f, h, i) refl
+by_tests p sk y w c_tilde c {first} {second} e f h i = rw (and_comm first second, e, f, h, i) refl
 
 -- ---- the vectors of an attempt
 

@@ -1,15 +1,17 @@
 //! Keccak-f[1600] on four states side by side: lane by lane, that of each state.
 #![tactic(auto)]
 
-ghost use Rattle.std.specs.Prelude.{◌≡◌, ◌≢◌, ◌<◌, ℕ, slice_set};
+ghost use Rattle.std.specs.Prelude.{◌≡◌, ◌≢◌, ◌<◌, ◌≤◌, ◌%◌, ℕ, length, take, slice_set};
 ghost use Rattle.shake.specs.Keccak.{round, keccak_f};
 ghost use Rattle.shake.specs.Four.{AreFour, beside, state_at, with_plane};
+ghost use Rattle.shake.specs.Shake.{bytes};
 
+use crate::blocks::write_block;
 use crate::permutation::{ROUND_CONSTANTS, effects, plane, round};
 
 /// Writes four states side by side.
 #[inline(always)]
-fn write_beside(
+pub(crate) fn write_beside(
     a: &[u64; 25],
     b: &[u64; 25],
     c: &[u64; 25],
@@ -25,7 +27,7 @@ fn write_beside(
 
 /// State `j` of four.
 #[inline(always)]
-fn state_at(states: &[[u64; 4]; 25], j: usize) -> [u64; 25]
+pub(crate) fn state_at(states: &[[u64; 4]; 25], j: usize) -> [u64; 25]
     requires { j < 4 }
     ensures { result ≡ state_at states.now j }
 {
@@ -34,6 +36,17 @@ fn state_at(states: &[[u64; 4]; 25], j: usize) -> [u64; 25]
         state[index] = states[index][j];
     }
     state
+}
+
+/// Writes the first bytes of state `j`.
+// Rust: #[inline(always)]
+pub(crate) fn write_block_of(states: &[[u64; 4]; 25], j: usize, block: &mut [u8])
+    requires place { j < 4 }
+    requires size { length block.old ≤ 200 }
+    requires whole { length block.old % 8 ≡ 0 }
+    ensures { block.new ≡ take (length block.old) (bytes (state_at states.now j)) }
+{
+    write_block(&state_at(states, j), block);
 }
 
 /// Writes a lane of state `j`.
@@ -87,8 +100,8 @@ fn two_rounds(states: &mut [[u64; 4]; 25], first: u64, second: u64)
 
 /// The permutation Keccak-f[1600] of each state. The rounds are a loop: 24 of them one after the other are more instructions
 /// than the processor keeps at hand, and take longer.
-// Rust: #[inline(always)]
-fn f1600x4(states: &mut [[u64; 4]; 25])
+// Compiled for AVX2 too.
+pub(crate) fn f1600x4(states: &mut [[u64; 4]; 25])
     requires { AreFour states.old }
     ensures four { AreFour states.new }
     ensures permuted { (j : ℕ) → j < 4 → state_at states.new j ≡ keccak_f (state_at states.old j) }
@@ -103,7 +116,6 @@ fn f1600x4(states: &mut [[u64; 4]; 25])
 }
 
 /// The permutation Keccak-f[1600] of each of four states.
-// Compiled for AVX2 too.
 pub fn f1600_four(a: &mut [u64; 25], b: &mut [u64; 25], c: &mut [u64; 25], d: &mut [u64; 25])
     ensures first { a.new ≡ keccak_f a.old }
     ensures second { b.new ≡ keccak_f b.old }

@@ -4,10 +4,11 @@
 ghost use Rattle.std.specs.Prelude.{◌≡◌, ◌<◌, ◌≤◌, ◌+◌, ◌++◌, ◌⊎◌, ℕ, List, [], length, take, MatchOption};
 ghost use Rattle.shake.specs.Keccak.{keccak_f};
 ghost use Rattle.shake.specs.Shake.{bytes, shake};
+ghost use Rattle.shake.specs.Four.{AreFour, beside, state_at};
 ghost use Rattle.shake.specs.State.{CanBeSaved, IsRate, IsSaved, next_bytes};
 
 use crate::blocks::{add_block, pad, write_block, write_run};
-use crate::four::f1600_four;
+use crate::four::{f1600_four, f1600x4, state_at, write_beside, write_block_of};
 use crate::permutation::f1600;
 
 /// SHAKE with blocks of `R` bytes, which takes its message piece by piece. Contracts say by `Holds hasher m` that the message
@@ -246,6 +247,40 @@ impl<const R: usize> ShakeReader<R> {
         ensures fourth { to_d.new ≡ next d.old (length to_d.old) }
         ensures fourth_left { (n : ℕ) → next d.old (length to_d.old + n) ≡ to_d.new ++ next d.new n }
     {
+        if a.given == R
+            && b.given == R
+            && c.given == R
+            && d.given == R
+            && to_d.len() == to_a.len()
+        {
+            ShakeReader::<R>::read_beside(a, b, c, d, to_a, to_b, to_c, to_d);
+        } else {
+            ShakeReader::<R>::read_in_turn(a, b, c, d, to_a, to_b, to_c, to_d);
+        }
+    }
+
+    /// `read_four`, block by block.
+    fn read_in_turn(
+        a: &mut ShakeReader<R>,
+        b: &mut ShakeReader<R>,
+        c: &mut ShakeReader<R>,
+        d: &mut ShakeReader<R>,
+        to_a: &mut [u8],
+        to_b: &mut [u8],
+        to_c: &mut [u8],
+        to_d: &mut [u8],
+    )
+        requires lengths { (length to_b.old ≡ length to_a.old) × (length to_c.old ≡ length to_a.old)
+            × ((length to_d.old ≡ length to_a.old) ⊎ (length to_d.old ≡ 0)) }
+        ensures first { to_a.new ≡ next a.old (length to_a.old) }
+        ensures first_left { (n : ℕ) → next a.old (length to_a.old + n) ≡ to_a.new ++ next a.new n }
+        ensures second { to_b.new ≡ next b.old (length to_b.old) }
+        ensures second_left { (n : ℕ) → next b.old (length to_b.old + n) ≡ to_b.new ++ next b.new n }
+        ensures third { to_c.new ≡ next c.old (length to_c.old) }
+        ensures third_left { (n : ℕ) → next c.old (length to_c.old + n) ≡ to_c.new ++ next c.new n }
+        ensures fourth { to_d.new ≡ next d.old (length to_d.old) }
+        ensures fourth_left { (n : ℕ) → next d.old (length to_d.old + n) ≡ to_d.new ++ next d.new n }
+    {
         let mut filled = 0;
         while filled < to_a.len() {
             let end = filled + R.min(to_a.len() - filled);
@@ -257,6 +292,78 @@ impl<const R: usize> ShakeReader<R> {
             let stop = end.min(to_d.len());
             d.read(&mut to_d[start..stop]);
             filled = end;
+        }
+    }
+
+    /// `read_four` of readers that have given their blocks, whose states stay side by side until all is read.
+    fn read_beside(
+        a: &mut ShakeReader<R>,
+        b: &mut ShakeReader<R>,
+        c: &mut ShakeReader<R>,
+        d: &mut ShakeReader<R>,
+        to_a: &mut [u8],
+        to_b: &mut [u8],
+        to_c: &mut [u8],
+        to_d: &mut [u8],
+    )
+        requires given { (a.old.given ≡ R) × (b.old.given ≡ R) × (c.old.given ≡ R) × (d.old.given ≡ R) }
+        requires lengths { (length to_b.old ≡ length to_a.old) × (length to_c.old ≡ length to_a.old) × (length to_d.old ≡ length to_a.old) }
+        ensures first { to_a.new ≡ next a.old (length to_a.old) }
+        ensures first_left { (n : ℕ) → next a.old (length to_a.old + n) ≡ to_a.new ++ next a.new n }
+        ensures second { to_b.new ≡ next b.old (length to_b.old) }
+        ensures second_left { (n : ℕ) → next b.old (length to_b.old + n) ≡ to_b.new ++ next b.new n }
+        ensures third { to_c.new ≡ next c.old (length to_c.old) }
+        ensures third_left { (n : ℕ) → next c.old (length to_c.old + n) ≡ to_c.new ++ next c.new n }
+        ensures fourth { to_d.new ≡ next d.old (length to_d.old) }
+        ensures fourth_left { (n : ℕ) → next d.old (length to_d.old + n) ≡ to_d.new ++ next d.new n }
+    {
+        let mut states = [[0; 4]; 25];
+        write_beside(&a.lanes, &b.lanes, &c.lanes, &d.lanes, &mut states);
+        let size = to_a.len();
+        let mut done = 0;
+        while size - done >= R {
+            f1600x4(&mut states);
+            write_block_of(&states, 0, &mut to_a[done..done + R]);
+            write_block_of(&states, 1, &mut to_b[done..done + R]);
+            write_block_of(&states, 2, &mut to_c[done..done + R]);
+            write_block_of(&states, 3, &mut to_d[done..done + R]);
+            done += R;
+        }
+        ShakeReader::<R>::go_on(a, b, c, d, &mut states, done < size);
+        a.read(&mut to_a[done..size]);
+        b.read(&mut to_b[done..size]);
+        c.read(&mut to_c[done..size]);
+        d.read(&mut to_d[done..size]);
+    }
+
+    /// Four readers go on from states side by side, which have given their blocks. The next blocks are made here if they are
+    /// `wanted`.
+    fn go_on(
+        a: &mut ShakeReader<R>,
+        b: &mut ShakeReader<R>,
+        c: &mut ShakeReader<R>,
+        d: &mut ShakeReader<R>,
+        states: &mut [[u64; 4]; 25],
+        wanted: bool,
+    )
+        requires four { AreFour states.old }
+        requires given { (a.old.given ≡ R) × (b.old.given ≡ R) × (c.old.given ≡ R) × (d.old.given ≡ R) }
+        ensures first { (n : ℕ) → next a.new n ≡ next_bytes R (state_at states.old 0) [] 0 n }
+        ensures second { (n : ℕ) → next b.new n ≡ next_bytes R (state_at states.old 1) [] 0 n }
+        ensures third { (n : ℕ) → next c.new n ≡ next_bytes R (state_at states.old 2) [] 0 n }
+        ensures fourth { (n : ℕ) → next d.new n ≡ next_bytes R (state_at states.old 3) [] 0 n }
+    {
+        if wanted {
+            f1600x4(states);
+            a.begin_state(states, 0);
+            b.begin_state(states, 1);
+            c.begin_state(states, 2);
+            d.begin_state(states, 3);
+        } else {
+            a.lanes = state_at(states, 0);
+            b.lanes = state_at(states, 1);
+            c.lanes = state_at(states, 2);
+            d.lanes = state_at(states, 3);
         }
     }
 
@@ -281,6 +388,15 @@ impl<const R: usize> ShakeReader<R> {
             c.begin_block();
             d.begin_if_given(&fourth);
         }
+    }
+
+    /// Takes state `j` of four, which were permuted, and its block.
+    fn begin_state(&mut self, states: &[[u64; 4]; 25], j: usize)
+        requires { j < 4 }
+        ensures { (n : ℕ) → next self.new n ≡ next_bytes R (state_at states.now j) (take R (bytes (state_at states.now j))) 0 n }
+    {
+        self.lanes = state_at(states, j);
+        self.begin_block();
     }
 
     /// Takes the block of the lanes in hand, which were permuted.

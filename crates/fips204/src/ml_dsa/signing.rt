@@ -231,19 +231,19 @@ impl<'a, const K: usize, const L: usize, H, G> SigningKey<'a, K, L, H, G> {
         // c_hat = NTT(c)
         let c_hat = Factor::of(c);
         let key = self.transforms;
-        let mut products = Products::of(&c_hat, &key.s1_hat, &key.s2_hat);
-        // z = y + c s1, with a norm below gamma1 - beta
-        let mut z = [R0; L];
-        products.write_first(&mut z);
-        write_centred_sum(&mut z, y);
-        if !has_norm_below(&z, p.z_bound()) {
-            return false;
-        }
-        // r0 = LowBits(w - c s2), with a norm below gamma2 - beta
-        products.write_second(rows);
+        let mut products = Products::of(&c_hat, &key.s2_hat, &key.s1_hat);
+        // r0 = LowBits(w - c s2), with a norm below gamma2 - beta: first, since it rejects most
+        products.write_first(rows);
         write_difference(w, rows);
         write_low_vector(p.gamma2, w, rows);
         if !has_norm_below(rows, p.r0_bound()) {
+            return false;
+        }
+        // z = y + c s1, with a norm below gamma1 - beta
+        let mut z = [R0; L];
+        products.write_second(&mut z);
+        write_centred_sum(&mut z, y);
+        if !has_norm_below(&z, p.z_bound()) {
             return false;
         }
         // c t0, with a norm below gamma2

@@ -1,11 +1,12 @@
 // Made by tools/erase of crates/shake/src/four.rt. Change that, not this.
 //! Keccak-f[1600] on four states side by side: lane by lane, that of each state.
 
+use crate::proved::shake::blocks::write_block;
 use crate::proved::shake::permutation::{ROUND_CONSTANTS, effects, plane, round};
 
 /// Writes four states side by side.
 #[inline(always)]
-fn write_beside(
+pub(crate) fn write_beside(
     a: &[u64; 25],
     b: &[u64; 25],
     c: &[u64; 25],
@@ -19,12 +20,18 @@ fn write_beside(
 
 /// State `j` of four.
 #[inline(always)]
-fn state_at(states: &[[u64; 4]; 25], j: usize) -> [u64; 25] {
+pub(crate) fn state_at(states: &[[u64; 4]; 25], j: usize) -> [u64; 25] {
     let mut state = [0; 25];
     for index in 0..25 {
         state[index] = states[index][j];
     }
     state
+}
+
+/// Writes the first bytes of state `j`.
+#[inline(always)]
+pub(crate) fn write_block_of(states: &[[u64; 4]; 25], j: usize, block: &mut [u8]) {
+    write_block(&state_at(states, j), block);
 }
 
 /// Writes a lane of state `j`.
@@ -60,28 +67,27 @@ fn two_rounds(states: &mut [[u64; 4]; 25], first: u64, second: u64) {
     }
 }
 
-/// The permutation Keccak-f[1600] of each state. The rounds are a loop: 24 of them one after the other are more instructions
-/// than the processor keeps at hand, and take longer.
-#[inline(always)]
-fn f1600x4(states: &mut [[u64; 4]; 25]) {
-    for pair in 0..12 {
-        two_rounds(
-            states,
-            ROUND_CONSTANTS[2 * pair],
-            ROUND_CONSTANTS[2 * pair + 1],
-        );
+crate::levels::with_avx2! {
+    /// The permutation Keccak-f[1600] of each state. The rounds are a loop: 24 of them one after the other are more instructions
+    /// than the processor keeps at hand, and take longer.
+    pub(crate) fn f1600x4(states: &mut [[u64; 4]; 25]) {
+        for pair in 0..12 {
+            two_rounds(
+                states,
+                ROUND_CONSTANTS[2 * pair],
+                ROUND_CONSTANTS[2 * pair + 1],
+            );
+        }
     }
 }
 
-crate::levels::with_avx2! {
-    /// The permutation Keccak-f[1600] of each of four states.
-    pub fn f1600_four(a: &mut [u64; 25], b: &mut [u64; 25], c: &mut [u64; 25], d: &mut [u64; 25]) {
-        let mut states = [[0; 4]; 25];
-        write_beside(a, b, c, d, &mut states);
-        f1600x4(&mut states);
-        *a = state_at(&states, 0);
-        *b = state_at(&states, 1);
-        *c = state_at(&states, 2);
-        *d = state_at(&states, 3);
-    }
+/// The permutation Keccak-f[1600] of each of four states.
+pub fn f1600_four(a: &mut [u64; 25], b: &mut [u64; 25], c: &mut [u64; 25], d: &mut [u64; 25]) {
+    let mut states = [[0; 4]; 25];
+    write_beside(a, b, c, d, &mut states);
+    f1600x4(&mut states);
+    *a = state_at(&states, 0);
+    *b = state_at(&states, 1);
+    *c = state_at(&states, 2);
+    *d = state_at(&states, 3);
 }

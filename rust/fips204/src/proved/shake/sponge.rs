@@ -2,7 +2,7 @@
 //! SHAKE128 and SHAKE256 (FIPS 202, section 6.2), piece by piece.
 
 use crate::proved::shake::blocks::{add_block, pad, write_block, write_run};
-use crate::proved::shake::four::f1600_four;
+use crate::proved::shake::four::{f1600_four, f1600x4, state_at, write_beside, write_block_of};
 use crate::proved::shake::permutation::f1600;
 
 /// SHAKE with blocks of `R` bytes, which takes its message piece by piece. Contracts say by `Holds hasher m` that the message
@@ -176,6 +176,29 @@ impl<const R: usize> ShakeReader<R> {
         to_c: &mut [u8],
         to_d: &mut [u8],
     ) {
+        if a.given == R
+            && b.given == R
+            && c.given == R
+            && d.given == R
+            && to_d.len() == to_a.len()
+        {
+            ShakeReader::<R>::read_beside(a, b, c, d, to_a, to_b, to_c, to_d);
+        } else {
+            ShakeReader::<R>::read_in_turn(a, b, c, d, to_a, to_b, to_c, to_d);
+        }
+    }
+
+    /// `read_four`, block by block.
+    fn read_in_turn(
+        a: &mut ShakeReader<R>,
+        b: &mut ShakeReader<R>,
+        c: &mut ShakeReader<R>,
+        d: &mut ShakeReader<R>,
+        to_a: &mut [u8],
+        to_b: &mut [u8],
+        to_c: &mut [u8],
+        to_d: &mut [u8],
+    ) {
         let mut filled = 0;
         while filled < to_a.len() {
             let end = filled + R.min(to_a.len() - filled);
@@ -187,6 +210,60 @@ impl<const R: usize> ShakeReader<R> {
             let stop = end.min(to_d.len());
             d.read(&mut to_d[start..stop]);
             filled = end;
+        }
+    }
+
+    /// `read_four` of readers that have given their blocks, whose states stay side by side until all is read.
+    fn read_beside(
+        a: &mut ShakeReader<R>,
+        b: &mut ShakeReader<R>,
+        c: &mut ShakeReader<R>,
+        d: &mut ShakeReader<R>,
+        to_a: &mut [u8],
+        to_b: &mut [u8],
+        to_c: &mut [u8],
+        to_d: &mut [u8],
+    ) {
+        let mut states = [[0; 4]; 25];
+        write_beside(&a.lanes, &b.lanes, &c.lanes, &d.lanes, &mut states);
+        let size = to_a.len();
+        let mut done = 0;
+        while size - done >= R {
+            f1600x4(&mut states);
+            write_block_of(&states, 0, &mut to_a[done..done + R]);
+            write_block_of(&states, 1, &mut to_b[done..done + R]);
+            write_block_of(&states, 2, &mut to_c[done..done + R]);
+            write_block_of(&states, 3, &mut to_d[done..done + R]);
+            done += R;
+        }
+        ShakeReader::<R>::go_on(a, b, c, d, &mut states, done < size);
+        a.read(&mut to_a[done..size]);
+        b.read(&mut to_b[done..size]);
+        c.read(&mut to_c[done..size]);
+        d.read(&mut to_d[done..size]);
+    }
+
+    /// Four readers go on from states side by side, which have given their blocks. The next blocks are made here if they are
+    /// `wanted`.
+    fn go_on(
+        a: &mut ShakeReader<R>,
+        b: &mut ShakeReader<R>,
+        c: &mut ShakeReader<R>,
+        d: &mut ShakeReader<R>,
+        states: &mut [[u64; 4]; 25],
+        wanted: bool,
+    ) {
+        if wanted {
+            f1600x4(states);
+            a.begin_state(states, 0);
+            b.begin_state(states, 1);
+            c.begin_state(states, 2);
+            d.begin_state(states, 3);
+        } else {
+            a.lanes = state_at(states, 0);
+            b.lanes = state_at(states, 1);
+            c.lanes = state_at(states, 2);
+            d.lanes = state_at(states, 3);
         }
     }
 
@@ -206,6 +283,12 @@ impl<const R: usize> ShakeReader<R> {
             c.begin_block();
             d.begin_if_given(&fourth);
         }
+    }
+
+    /// Takes state `j` of four, which were permuted, and its block.
+    fn begin_state(&mut self, states: &[[u64; 4]; 25], j: usize) {
+        self.lanes = state_at(states, j);
+        self.begin_block();
     }
 
     /// Takes the block of the lanes in hand, which were permuted.

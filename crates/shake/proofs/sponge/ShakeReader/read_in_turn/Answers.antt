@@ -3,7 +3,7 @@ use borrow.Rule.Slice.PartMut.{put_mid}
 use Rattle.shake.specs.Pieces.{next}
 use Rattle.shake.proofs.SideBySide.{given_all, given_at, given_more}
 use Rattle.shake.proofs.Squeezing.{filled_all}
-use Rattle.shake.proofs.sponge.ShakeReader.read_four.Goals as goal
+use Rattle.shake.proofs.sponge.ShakeReader.read_in_turn.Goals as goal
 
 pub loop-filled-preserved : goal.loop-filled-preserved
 loop-filled-preserved g c =

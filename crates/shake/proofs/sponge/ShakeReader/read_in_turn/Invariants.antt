@@ -1,7 +1,7 @@
 use Rattle.std.proofs.Common.{◌≤◌, ◌-◌, length, min}
 use Rattle.shake.proofs.SideBySide.{IsGiven}
 use Rattle.shake.specs.Pieces.{next}
-use Rattle.shake.proofs.sponge.ShakeReader.read_four.Given as goal
+use Rattle.shake.proofs.sponge.ShakeReader.read_in_turn.Given as goal
 
 abbrev pub invariant-loop-filled : goal.invariant-loop-filled
 invariant-loop-filled g l = record {
