@@ -1,11 +1,11 @@
 -- Base64 group by group.
-use Rattle.std.proofs.Common.{◌≡◌, ℕ, suc, ◌+◌, ◌-◌, ◌*◌, ◌/◌, ◌%◌, ◌<◌, ◌≤◌, ◌≢◌, ◌^◌, ◌⊎◌, inl, inr, Bool, true, false, eqb, ltb, not, ◌&&◌, min, map, replicate, List, [], ◌∷◌, ◌++◌, length, take, drop, get_or, Result, Ok, Err, refl, sym, ap, ◌∙◌, append_assoc, arith}
+use Rattle.std.proofs.Common.{◌≡◌, ℕ, suc, ◌+◌, ◌-◌, ◌*◌, ◌/◌, ◌%◌, ◌<◌, ◌≤◌, ◌^◌, inl, inr, Bool, true, false, eqb, ltb, not, ◌&&◌, map, replicate, List, [], ◌∷◌, ◌++◌, length, Result, Ok, Err, refl, sym, ap, ◌∙◌, append_assoc, arith}
 use Rattle.std.proofs.lemmas.Bool.{eqb-true, cases_lt}
 use Rattle.std.proofs.lemmas.Bool.Decides.{nat_tests}
-use Rattle.std.proofs.lemmas.List.{append-nil, length-append}
+use Rattle.std.proofs.lemmas.List.{append-nil}
 use Rattle.fips204_shake.specs.Reading.{◌>>=◌}
-use Rattle.fips204_shake.specs.Base64.{alphabet, symbol, base64, bits, bits_of, sixes, six, pad, IsBytes}
-use Rattle.fips204_shake.specs.Base64Reading.{value_of, three_bytes, two_bytes, one_byte, group_at, fitting_at, symbols_at}
+use Rattle.fips204_shake.specs.Base64.{symbol, base64, bits, bits_of, sixes, six, pad}
+use Rattle.fips204_shake.specs.Base64Reading.{group_at, symbols_at}
 use Rattle.fips204_shake.specs.declared.pem.fault.PemFault.{PemFault}
 use Rattle.fips204_shake.specs.declared.pem.fault.PemFault.TheVariants.{Damaged, TooLong}
 use Rattle.fips204_base.proofs.Roots.{all_below, at_index}

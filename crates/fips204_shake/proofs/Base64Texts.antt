@@ -1,14 +1,12 @@
 -- What is read of symbols is what they spell, and what they spell is read.
-use Rattle.std.proofs.Common.{◌≡◌, ℕ, zero, suc, ◌+◌, ◌-◌, ◌*◌, ◌/◌, ◌%◌, ◌<◌, ◌≤◌, ◌≢◌, ◌⊎◌, inl, inr, Bool, true, false, cond, eqb, ltb, not, ◌&&◌, min, List, [], ◌∷◌, ◌++◌, length, take, drop, get_or, Result, Ok, Err, refl, sym, ap, subst, ◌∙◌, append_assoc, arith}
-use Rattle.std.specs.List.{position_or_len, list_all}
-use Rattle.std.proofs.lemmas.Bool.{eqb-true, eq-eqb, ltb-true, ltb-false, cases_lt}
+use Rattle.std.proofs.Common.{◌≡◌, ℕ, zero, suc, ◌+◌, ◌-◌, ◌*◌, ◌/◌, ◌%◌, ◌<◌, ◌≤◌, inl, inr, Bool, true, false, cond, eqb, ltb, not, ◌&&◌, List, [], ◌∷◌, ◌++◌, length, Result, Ok, Err, refl, sym, ap, subst, ◌∙◌, arith}
+use Rattle.std.specs.List.{list_all}
+use Rattle.std.proofs.lemmas.Bool.{eqb-true, ltb-true, ltb-false}
 use Rattle.std.proofs.lemmas.Bool.Decides.{nat_tests}
-use Rattle.std.proofs.lemmas.List.{append-nil, length-append}
+use Rattle.std.proofs.lemmas.List.{length-append}
 use Rattle.std.proofs.lemmas.List.Sums.{passes_at_first}
-use Rattle.fips204_shake.specs.Reading.{◌>>=◌}
 use Rattle.fips204_shake.specs.Base64.{alphabet, symbol, base64, base64_length, pad, IsBytes}
-use Rattle.fips204_shake.specs.Base64Reading.{value_of, three_bytes, two_bytes, one_byte, group_at, fitting_at, symbols_at}
-use Rattle.fips204_shake.specs.declared.pem.fault.PemFault.{PemFault}
+use Rattle.fips204_shake.specs.Base64Reading.{value_of, three_bytes, two_bytes, one_byte, group_at, symbols_at}
 use Rattle.fips204_shake.specs.declared.pem.fault.PemFault.TheVariants.{Damaged, TooLong}
 use Rattle.fips204_base.proofs.Roots.{all_below, at_index}
 use Rattle.fips204_shake.proofs.Elements.{bind_ok, chosen, ok_is, met, passed}

@@ -1,5 +1,5 @@
 -- A text that is read spells what is read, and the bytes that a text spells are read.
-use Rattle.std.proofs.Common.{◌≡◌, ℕ, zero, suc, ◌+◌, ◌-◌, ◌*◌, ◌/◌, ◌%◌, ◌<◌, ◌≤◌, Bool, true, false, cond, eqb, ltb, not, ◌&&◌, min, inl, inr, List, [], ◌∷◌, ◌++◌, length, take, drop, Result, Ok, Err, codes, refl, sym, ap, subst, ◌∙◌, append_assoc, arith}
+use Rattle.std.proofs.Common.{◌≡◌, ℕ, zero, suc, ◌+◌, ◌-◌, ◌*◌, ◌/◌, ◌%◌, ◌<◌, ◌≤◌, Bool, true, false, cond, eqb, not, min, inl, inr, List, [], ◌∷◌, ◌++◌, length, take, drop, Ok, Err, refl, sym, ap, subst, ◌∙◌, append_assoc, arith}
 use Rattle.std.specs.Str.{bytes_eq}
 use Rattle.std.specs.List.{position_or_len, filter, list_all, AllPass}
 use Rattle.std.proofs.lemmas.Bool.{eqb-true, cases_lt}
@@ -8,15 +8,14 @@ use Rattle.std.proofs.lemmas.List.{take-append-drop, take_at, drop_at, take_all,
 use Rattle.std.proofs.lemmas.List.Elements.{filter-append, All-head, All-tail, All-take, All-drop}
 use Rattle.std.proofs.lemmas.List.Sums.{AllPass-from_list_all}
 use Rattle.std.proofs.lemmas.Slice.Eq.{bytes_eq-Decides}
-use Rattle.fips204_shake.specs.Reading.{◌>>=◌}
-use Rattle.fips204_shake.specs.Base64.{alphabet, symbol, base64, base64_length, pad, IsBytes}
+use Rattle.fips204_shake.specs.Base64.{alphabet, symbol, base64, base64_length, IsBytes}
 use Rattle.fips204_shake.specs.Base64Reading.{is_black, symbols_at}
 use Rattle.fips204_shake.specs.Pem.{begin_line, end_line, begins, beginning, NoneBegins, Spells, lines, wrapped, lines_length, pem}
 use Rattle.fips204_shake.specs.PemReading.{from_first, from_beginning, label_fault, opened_at, is_dash, closed_at, pem_at}
 use Rattle.fips204_shake.specs.declared.pem.Kind.{Kind}
 use Rattle.fips204_shake.specs.declared.pem.Kind.TheVariants.{Public, Private}
 use Rattle.fips204_shake.specs.declared.pem.fault.PemFault.{PemFault}
-use Rattle.fips204_shake.specs.declared.pem.fault.PemFault.TheVariants.{NotPem, CutShort, Behind, Damaged}
+use Rattle.fips204_shake.specs.declared.pem.fault.PemFault.TheVariants.{NotPem, CutShort, Damaged}
 use Rattle.fips204_base.proofs.Roots.{all_below}
 use Rattle.fips204_shake.proofs.Elements.{bind_ok, chosen, ok_is, same_bytes}
 use Rattle.fips204_shake.proofs.Base64Texts.{symbols_found, symbols_again, all_pass, both_true, bytes_none, bytes_more, how_long, of_both}

@@ -1,6 +1,6 @@
 -- The text of a key: PEM (RFC 7468). It is read in the lax form (section 3, figure 2) with text around it (section 2), but that VT is no
 -- white space and base64 has to have its padding. It is written in the strict form (figure 3).
-use Rattle.std.specs.Prelude.{◌≡◌, ℕ, zero, suc, ◌+◌, ◌*◌, ◌/◌, ◌<◌, Bool, false, List, [], ◌∷◌, ◌++◌, length, take, drop, codes}
+use Rattle.std.specs.Prelude.{◌≡◌, ℕ, zero, suc, ◌+◌, ◌/◌, ◌<◌, Bool, false, List, [], ◌∷◌, ◌++◌, length, take, drop, codes}
 use Rattle.std.specs.Str.{bytes_eq}
 use Rattle.std.specs.List.{filter}
 use Rattle.fips204_shake.specs.Base64.{base64, base64_length, IsBytes}

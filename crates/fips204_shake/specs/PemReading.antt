@@ -1,5 +1,5 @@
 -- Reading the text of a key: the bytes that it spells, or the first fault.
-use Rattle.std.specs.Prelude.{◌≡◌, ℕ, ◌==◌, Bool, List, [], ◌∷◌, length, take, drop, Result, Ok, Err, if◌then◌else◌, codes}
+use Rattle.std.specs.Prelude.{ℕ, ◌==◌, Bool, List, [], ◌∷◌, length, take, drop, Result, Ok, Err, if◌then◌else◌, codes}
 use Rattle.std.specs.List.{position_or_len, filter}
 use Rattle.fips204_shake.specs.Reading.{◌>>=◌}
 use Rattle.fips204_shake.specs.Base64Reading.{is_black, symbols_at}

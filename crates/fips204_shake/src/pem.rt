@@ -4,7 +4,7 @@
 pub mod base64;
 mod fault;
 
-ghost use Rattle.std.specs.Prelude.{◌≡◌, ◌≤◌, ◌+◌, ◌++◌, ℕ, List, length, take, Ok, IfOk};
+ghost use Rattle.std.specs.Prelude.{◌≡◌, ◌<◌, ◌≤◌, ◌+◌, ◌++◌, ℕ, List, length, take, Ok, IfOk};
 ghost use Rattle.std.specs.List.{position, position_or_len};
 ghost use Rattle.fips204_shake.specs.Base64.{base64};
 ghost use Rattle.fips204_shake.specs.Pem.{begin_line, end_line, beginning, Spells, wrapped, lines_length, pem, pem_length};
@@ -196,6 +196,25 @@ pub fn read(kind: Kind, text: &[u8], out: &mut [u8]) -> Result<usize, PemFault>
     spelled(kind, text, out)
 }
 
+/// How many bytes the first and the last line have, without their ends.
+fn boundaries_length(kind: Kind) -> usize
+    ensures { result ≡ length (begin_line kind) + length (end_line kind) }
+{
+    match kind {
+        Kind::Public => 26 + 24,
+        Kind::Private => 27 + 25,
+    }
+}
+
+/// How many characters `write` writes for so many bytes.
+pub fn written_length(kind: Kind, bytes: usize) -> usize
+    requires { bytes < 16777216 }
+    ensures { result ≡ pem_length kind bytes }
+{
+    let symbols = 4 * ((bytes + 2) / 3);
+    boundaries_length(kind) + 2 + symbols + (symbols + 63) / 64
+}
+
 /// Writes the symbols of bytes in lines of 64 at this place, and returns the place behind them.
 fn put_lines(text: &mut [u8], at: usize, bytes: &[u8]) -> usize
     requires { at + lines_length (length bytes.now) ≤ length text.old }
@@ -213,7 +232,7 @@ fn put_lines(text: &mut [u8], at: usize, bytes: &[u8]) -> usize
     at
 }
 
-/// Writes the text of a key.
+/// Writes the text of a key, in lines of 64 symbols, which end in LF.
 pub fn write(kind: Kind, bytes: &[u8], text: &mut [u8])
     requires { length text.old ≡ pem_length kind (length bytes.now) }
     ensures written { text.new ≡ pem kind bytes.now }

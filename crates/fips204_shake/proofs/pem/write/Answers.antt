@@ -1,7 +1,7 @@
-use Rattle.std.proofs.Common.{◌≡◌, ◌∙◌, ◌≤◌, ℕ, List, ◌++◌, length, take, sym, ap, subst, arith}
+use Rattle.std.proofs.Common.{◌∙◌, ◌≤◌, ℕ, List, ◌++◌, length, take, sym, ap, subst, arith}
 use Rattle.std.proofs.lemmas.List.{take_all}
 use Rattle.fips204_shake.specs.Base64.{IsBytes}
-use Rattle.fips204_shake.specs.Pem.{pem, Spells}
+use Rattle.fips204_shake.specs.Pem.{Spells}
 use Rattle.fips204_shake.proofs.PemTexts.{pem_put, pem_spells}
 use Rattle.fips204_shake.proofs.pem.write.Goals as goal
 

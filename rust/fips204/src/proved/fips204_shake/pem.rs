@@ -147,6 +147,20 @@ pub fn read(kind: Kind, text: &[u8], out: &mut [u8]) -> Result<usize, PemFault> 
     spelled(kind, text, out)
 }
 
+/// How many bytes the first and the last line have, without their ends.
+fn boundaries_length(kind: Kind) -> usize {
+    match kind {
+        Kind::Public => 26 + 24,
+        Kind::Private => 27 + 25,
+    }
+}
+
+/// How many characters `write` writes for so many bytes.
+pub fn written_length(kind: Kind, bytes: usize) -> usize {
+    let symbols = 4 * ((bytes + 2) / 3);
+    boundaries_length(kind) + 2 + symbols + (symbols + 63) / 64
+}
+
 /// Writes the symbols of bytes in lines of 64 at this place, and returns the place behind them.
 fn put_lines(text: &mut [u8], at: usize, bytes: &[u8]) -> usize {
     let mut rest = bytes;
@@ -160,7 +174,7 @@ fn put_lines(text: &mut [u8], at: usize, bytes: &[u8]) -> usize {
     at
 }
 
-/// Writes the text of a key.
+/// Writes the text of a key, in lines of 64 symbols, which end in LF.
 pub fn write(kind: Kind, bytes: &[u8], text: &mut [u8]) {
     let first = put(text, 0, kind.begin_line());
     let second = put(text, first, b"\n");

@@ -1,4 +1,4 @@
-use Rattle.std.proofs.Common.{◌≡◌, ◌∙◌, ℕ, List, length, take, sym, ap}
+use Rattle.std.proofs.Common.{◌≡◌, ◌∙◌, length, ap}
 use Rattle.std.specs.List.{filter}
 use Rattle.fips204_shake.specs.Base64.{base64}
 use Rattle.fips204_shake.specs.Base64Reading.{is_black, symbols_at}

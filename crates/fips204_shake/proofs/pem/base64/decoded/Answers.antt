@@ -1,4 +1,4 @@
-use Rattle.std.proofs.Common.{◌≡◌, ◌∙◌, ◌<◌, ◌≤◌, ◌-◌, ℕ, List, ◌∷◌, Bool, true, false, not, ◌&&◌, eqb, ltb, length, take, Err, refl, sym, ap, arith, rules}
+use Rattle.std.proofs.Common.{◌≡◌, ◌∙◌, ℕ, List, ◌∷◌, not, ◌&&◌, eqb, ltb, length, Err, sym, ap, arith, rules}
 use Rattle.std.specs.List.{filter}
 use Rattle.fips204_shake.specs.Base64Reading.{is_black}
 use Rattle.fips204_shake.proofs.Base64Groups.{step_few, step_refused, step_followed, step_too_long, step_read, step_done}

@@ -1,4 +1,4 @@
-use Rattle.std.proofs.Common.{◌≡◌, false, true, eqb, inl, inr, refl, arith}
+use Rattle.std.proofs.Common.{◌≡◌, false, true, eqb, inl, inr, arith}
 use Rattle.std.proofs.lemmas.Bool.{eq-eqb}
 use Rattle.std.proofs.lemmas.Bool.Decides.{nat_tests}
 use Rattle.fips204_shake.specs.Base64Reading.{group_at}

@@ -1,4 +1,4 @@
-use Rattle.std.proofs.Common.{◌≡◌, ◌≤◌, ◌+◌, ◌++◌, length, take}
+use Rattle.std.proofs.Common.{◌≡◌, ◌+◌, ◌++◌, length, take}
 use Rattle.fips204_shake.specs.Base64.{base64, base64_length}
 use Rattle.fips204_shake.proofs.pem.base64.put_symbols.Given as goal
 

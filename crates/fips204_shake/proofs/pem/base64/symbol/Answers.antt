@@ -1,4 +1,3 @@
-use Rattle.std.proofs.Common.{refl}
 use Rattle.fips204_shake.proofs.Base64Symbols.{written_is}
 use Rattle.fips204_shake.proofs.pem.base64.symbol.Goals as goal
 

@@ -1,4 +1,4 @@
-use Rattle.std.proofs.Common.{◌<◌, refl, arith}
+use Rattle.std.proofs.Common.{◌<◌, arith}
 use Rattle.fips204_shake.proofs.Base64Symbols.{number_is}
 use Rattle.fips204_shake.proofs.pem.base64.value.Goals as goal
 
