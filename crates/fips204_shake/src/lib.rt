@@ -36,6 +36,7 @@ pub mod der;
 pub mod ml_dsa_44;
 pub mod ml_dsa_65;
 pub mod ml_dsa_87;
+pub mod pem;
 pub mod pieces;
 pub mod streams;
 

@@ -121,10 +121,10 @@ impl<const N: usize> Clone for Wiped<N> {
 }
 
 /// A vector that is overwritten with zeros when it is dropped. It may not grow, which would leave a copy of it behind.
-#[cfg(feature = "default-rng")]
-pub(crate) struct WipedVec(pub(crate) std::vec::Vec<u8>);
+#[cfg(feature = "alloc")]
+pub(crate) struct WipedVec(pub(crate) alloc::vec::Vec<u8>);
 
-#[cfg(feature = "default-rng")]
+#[cfg(feature = "alloc")]
 impl Drop for WipedVec {
     fn drop(&mut self) {
         wipe(&mut self.0);

@@ -4,7 +4,7 @@
     feature = "ml-dsa-44-bare",
     feature = "ml-dsa-65-bare",
     feature = "ml-dsa-87-bare",
-    feature = "default-rng"
+    feature = "alloc"
 ))]
 
 macro_rules! tests_of_a_set {
@@ -59,10 +59,40 @@ macro_rules! tests_of_a_set {
                 ] {
                     assert_eq!(PrivateKey::from_pem(&text).unwrap().into_bytes(), bytes);
                 }
-                let (spaced, longer) = (seed_pem.replace("MD", "M D"), format!("{seed_pem}\n"));
-                for wrong in ["", "x", &public_pem, &seed_pem[1..], &spaced, &longer] {
+                for wrong in ["", "x", &public_pem, &seed_pem[1..], &seed_pem[..60]] {
                     assert!(PrivateKey::from_pem(wrong).is_err());
                 }
+            }
+
+            #[test]
+            fn files_as_people_paste_them() {
+                let (public, _) = KG::keygen_from_seed(&seed());
+                let pem = public.to_pem().unwrap();
+                let seed_pem = PrivateKey::seed_to_pem(&seed()).unwrap();
+                let lines = |end: &str| pem.lines().collect::<Vec<_>>().join(end);
+                for text in [
+                    lines("\n"),
+                    lines("\r\n"),
+                    lines("\n\n"),
+                    lines("\n\t  "),
+                    lines("\r"),
+                    format!("\u{feff}{pem}"),
+                    format!("Our key of December:\n\n{pem}\nKeep it.\n"),
+                    pem.replace("MI", "M I"),
+                ] {
+                    let read = PublicKey::from_pem(&text).unwrap();
+                    assert_eq!(read.into_bytes(), public.clone().into_bytes());
+                }
+                let said = |text: &str| PublicKey::from_pem(text).err().map(|it| it.as_str());
+                for second in [&pem, &seed_pem] {
+                    let two = format!("{pem}{second}");
+                    assert_eq!(said(&two), Some("more follows behind its end"));
+                }
+                assert_eq!(said(&lines("\n")[..100]), Some("it is cut short"));
+                assert_eq!(
+                    said(&pem.replacen("M", "*", 1)),
+                    Some("its text is damaged")
+                );
             }
 
             #[test]
