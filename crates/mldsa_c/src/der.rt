@@ -11,9 +11,7 @@ ghost use Rattle.mldsa_c.specs.Der.{IfGenerated, IfPair, IfSame, IfConsistent, I
 use crate::numbers::{DONE, INCONSISTENT, NO_SEED, OTHER_SET, WRONG_LENGTH, status_of_der};
 use crate::statuses::status_of_refusal;
 use fips204_shake::bytes::array_of;
-use fips204_shake::der::{
-    PrivateKey, read_private, read_public, write_private, write_public,
-};
+use fips204_shake::der::{PrivateKey, read_private, read_public, write_private, write_public};
 use fips204_shake::{AnySet, Fault, Refusal, SetName};
 
 /// The lengths of the longest keys.

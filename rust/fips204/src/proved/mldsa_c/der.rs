@@ -4,9 +4,7 @@
 use crate::proved::mldsa_c::numbers::{DONE, INCONSISTENT, NO_SEED, OTHER_SET, WRONG_LENGTH, status_of_der};
 use crate::proved::mldsa_c::statuses::status_of_refusal;
 use crate::proved::fips204_shake::bytes::array_of;
-use crate::proved::fips204_shake::der::{
-    PrivateKey, read_private, read_public, write_private, write_public,
-};
+use crate::proved::fips204_shake::der::{PrivateKey, read_private, read_public, write_private, write_public};
 use crate::proved::fips204_shake::{AnySet, Fault, Refusal, SetName};
 
 /// The lengths of the longest keys.
