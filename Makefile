@@ -20,6 +20,7 @@ help:
 	@echo 'make fuzz SECONDS=N         what strangers give C, Rust and Python, N seconds a target, by default $(SECONDS)'
 	@echo 'make check                  make test, and with the Rattle kit each proof and mutation, and the tests of what it builds: an hour and a quarter'
 	@echo 'make roots                  as root: the first lines of the pages in bare roots of Debian 12, 13 and sid: an hour'
+	@echo 'make generated              make again what is made of other files, and name what changed: a minute'
 	@echo 'make release                make the packages, with the kit, in dist/: an hour, then 5 minutes'
 
 program:
@@ -44,10 +45,13 @@ fuzz:
 roots:
 	packaging/roots
 
+generated:
+	@scripts/generated
+
 release:
 	scripts/release
 
 include scripts/steps.mk
 include packaging/install.mk
 
-.PHONY: build help program run test fuzz check roots release
+.PHONY: build help program run test fuzz check roots generated release

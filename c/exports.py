@@ -1,9 +1,16 @@
-"""The exports of the static library as c/mldsa.h declares them, and the C that is generated of them."""
+#!/usr/bin/env python3
+"""The exports of the static library as c/mldsa.h declares them, and the C that is generated of them. The results of
+calls, with their numbers and texts, stand in that header alone: what other languages have of them is made here.
+
+    c/exports.py            writes the files
+    c/exports.py --check    compares them with what it would write: status 1 if one differs
+"""
 import pathlib
 import re
 import sys
 
-HEADER = (pathlib.Path(__file__).resolve().parent / "mldsa.h").read_text(encoding="utf-8")
+TOP = pathlib.Path(__file__).resolve().parent.parent
+HEADER = (TOP / "c/mldsa.h").read_text(encoding="utf-8")
 SETS = ("44", "65", "87")
 
 PROTOTYPE = re.compile(r"^(?!static|typedef|#|extern)(\w[\w \t]*?[ \t*]+)(\w+)\(([^()]*)\);", re.M)
@@ -114,3 +121,141 @@ def cases(found):
         numbers = f"{int(export.name.endswith('_accepts'))}, {len(export.arrays())}"
         lines.append(f'    {{"{export.name}", {number}, call_{export.name}, {numbers}, {{{used}}}, {{{written}}}}},\n')
     return "".join([*lines, "};\n"])
+
+
+# -- The results of calls
+
+MADE = "`c/exports.py` made this file from c/mldsa.h: edit that one."
+# The faults of the Rattle library are those results that have their texts, and these.
+OTHERWISE = {"KEY_RANGE": "KeyRange"}
+
+
+class Status:
+    """A result: its name without MLDSA_, its number, what the header says of it, and its text."""
+
+    def __init__(self, name, number, meaning, text):
+        self.name, self.number, self.meaning, self.text = name, int(number), meaning, text
+
+
+def texts():
+    """The text of each result, by its name; and the text of every other number."""
+    rows = re.findall(r'^    (?:case MLDSA_(\w+)|(default)): return "(.*)";$', HEADER, re.M)
+    return {name or other: text for name, other, text in rows}
+
+
+def statuses():
+    """Each result in the order of the header, but the second name of 0."""
+    rows = re.findall(r"^    MLDSA_(\w+) = (\d+),? +/\*\*< (.*) \*/$", HEADER, re.M)
+    found = [Status(name, number, meaning, texts()[name]) for name, number, meaning in rows if name != "YES"]
+    if [it.number for it in found] != [0, *range(2, len(found) + 1)] or len(texts()) != len(found) + 1:
+        sys.exit("mldsa.h: the numbers of results are not 0, 2, 3 and so on, or one has no text")
+    return found
+
+
+def variants(file, function):
+    """The variants of an enum of the library, with their texts."""
+    text = (TOP / "crates" / file).read_text(encoding="utf-8")
+    return re.findall(rf'^{function} (\w+) = codes "(.*)"$', text, re.M)
+
+
+def numbered(named):
+    """The number of each variant, in their order. No call has a fault of a generator, since the caller gives the random
+    bytes: these have the last numbers of a byte."""
+    found = {it.text: it.number for it in statuses()}
+    found = {name: found.get(text) for name, text in named}
+    found |= {OTHERWISE[it.name]: it.number for it in statuses() if OTHERWISE.get(it.name) in found}
+    others = [name for name, number in found.items() if number is None]
+    if any(not name.endswith("Rng") for name in others):
+        sys.exit(f"mldsa.h has no result with the text of {', '.join(others)}")
+    return found | {name: 256 - len(others) + place for place, name in enumerate(others)}
+
+
+def rattle():
+    """The numbers and texts in Rattle: code, definitions, and a proof by cases."""
+    faults = variants("fips204_base/specs/Faults.antt", "words")
+    of_der = variants("fips204_shake/specs/DerFaults.antt", "sentence")
+    numbers, numbers_of_der, rows, none = numbered(faults), numbered(of_der), statuses(), texts()["default"]
+    own = [it for it in rows if it.number not in {*numbers.values(), *numbers_of_der.values()}]
+    code = [f"//! The numbers that the exports return, and their texts. {MADE}\n#![tactic(auto)]\n\n",
+            "ghost use Rattle.std.specs.Prelude.{◌≡◌};\n",
+            "ghost use Rattle.mldsa_c.specs.Numbers.{status_of, status_of_der};\n\n",
+            "use fips204_shake::bytes::Fault;\nuse fips204_shake::der::DerFault;\n\n"]
+    for it in own:
+        meaning = it.meaning.rpartition(": ")[2]
+        code += [f"/// {meaning[0].upper()}{meaning[1:]}.\npub(crate) const {it.name}: u32 = {it.number};\n\n"]
+    code += [f'/// The text of a number that no call returns.\npub(crate) const NO_STATUS: &str = "{none}";\n\n',
+             f"/// The text of each number from 0 on.\npub(crate) const TEXTS: [&str; {len(rows) + 1}] = [\n"]
+    code += [f'    "{it.text}",\n' + "    NO_STATUS,\n" * (it.number == 0) for it in rows]
+    code += ["];\n"]
+    for what, kind, function, found in (("a fault", "Fault", "status_of", numbers),
+                                        ("a fault of DER", "DerFault", "status_of_der", numbers_of_der)):
+        code += [f"\n/// The status of {what}.\npub(crate) fn {function}(fault: {kind}) -> u32\n",
+                 f"    ensures {{ result ≡ {function} fault }}\n{{\n    match fault {{\n"]
+        code += [f"        {kind}::{name} => {number},\n" for name, number in found.items()]
+        code += ["    }\n}\n"]
+
+    use = ["use Rattle.fips204_base.specs.declared.fault.Fault.{Fault}\n",
+           f"use Rattle.fips204_base.specs.declared.fault.Fault.TheVariants.{{{', '.join(numbers)}}}\n"]
+    said = {text: f"words {name}" for name, text in faults} | {text: f"sentence {name}" for name, text in of_der}
+    specs = [f"-- The numbers that the exported calls return, and their texts. {MADE}\n",
+             "use Rattle.std.specs.Prelude.{ℕ, List, [], ◌∷◌, codes}\n",
+             "use Rattle.fips204_base.specs.Faults.{words}\n", *use,
+             "use Rattle.fips204_shake.specs.DerFaults.{sentence}\n",
+             "use Rattle.fips204_shake.specs.declared.der.fault.DerFault.{DerFault}\n",
+             "use Rattle.fips204_shake.specs.declared.der.fault.DerFault.TheVariants."
+             f"{{{', '.join(numbers_of_der)}}}\n\n",
+             "-- the status of each fault; no call has one of a generator, since the caller gives the random bytes\n",
+             "abbrev pub status_of : Fault → ℕ\n"]
+    specs += [f"status_of {name} = {number}\n" for name, number in numbers.items()]
+    specs += ["\n-- the status of each fault of DER\nabbrev pub status_of_der : DerFault → ℕ\n"]
+    specs += [f"status_of_der {name} = {number}\n" for name, number in numbers_of_der.items()]
+    specs += ["\n-- the text of a number that no call returns\nabbrev pub no_status : List ℕ\n",
+              f'no_status = codes "{none}"\n',
+              "\n-- the text of each number from 0 on\nabbrev pub texts : List (List ℕ)\ntexts =\n"]
+    listed = [said.get(it.text, f'codes "{it.text}"') for it in rows]
+    specs += [f"    {it} ∷\n" for it in (listed[0], "no_status", *listed[1:])] + ["    []\n"]
+
+    proofs = [f"-- No fault has the number of success, here or elsewhere. {MADE}\n",
+              "use Rattle.std.proofs.Common.{◌≡◌}\n", *use, "use Rattle.mldsa_c.specs.Numbers.{status_of}\n"]
+    for function, number in (("not_done", 0), ("not_one", 1)):
+        proofs += [f"\npub {function} : (fault : Fault) → ¬ ({number} ≡ status_of fault)\n"]
+        proofs += [f"{function} {name} = λ e. absurd cc\n" for name in numbers]
+    crate = TOP / "crates/mldsa_c"
+    return {crate / "src/numbers.rt": "".join(code), crate / "specs/Numbers.antt": "".join(specs),
+            crate / "proofs/OfFaults.antt": "".join(proofs)}
+
+
+def between(file, first, last, lines):
+    """A file of JavaScript, with these lines in the place of those that stand between two others."""
+    path = TOP / "js" / file
+    before, begin, rest = path.read_text(encoding="utf-8").partition(f"\n{first}\n")
+    _, end, after = rest.partition(f"\n{last}\n")
+    if not begin or not end:
+        sys.exit(f"js/{file}: the line `{first}` or `{last}` is missing")
+    return {path: f"{before}{begin}{''.join(lines)}{last}\n{after}"}
+
+
+def javascript():
+    """The table of results in JavaScript, and the type of their names."""
+    rows = statuses()
+    table = [f'    {it.name}: [{it.number}, "{it.text}"],\n' for it in rows]
+    names = [f'    /** {it.text} */\n    | "{it.name}"\n' for it in rows if it.number > 2]
+    return {**between("core.js", "const STATUSES = {", "};", table),
+            **between("mldsa.d.ts", "export type ErrorCode =", "    ;", names)}
+
+
+def main():
+    files, check = {**rattle(), **javascript()}, sys.argv[1:] == ["--check"]
+    if sys.argv[1:] not in ([], ["--check"]):
+        sys.exit(__doc__.strip())
+    wrong = [path for path, text in files.items() if not path.is_file() or path.read_text(encoding="utf-8") != text]
+    for path in wrong:
+        print(f"{path.relative_to(TOP)}: {'not as `c/exports.py` makes it' if check else 'made again'}")
+        if not check:
+            path.write_text(files[path], encoding="utf-8")
+    print(f"{len(files)} files made from c/mldsa.h, {len(wrong)} {'wrong' if check else 'changed'}")
+    return int(check and bool(wrong))
+
+
+if __name__ == "__main__":
+    sys.exit(main())

@@ -6,7 +6,8 @@
  *     if (mldsa65_verify(..) == MLDSA_YES)
  *         .. accepted ..
  *
- * and likewise for is_whole and is_pair.
+ * and likewise for is_whole and is_pair. No call but accepts returns 1, which is success in other libraries: the test `== 1` accepts
+ * nothing. But `if (mldsa65_verify(..))` accepts every forgery, and no compiler warns.
  *
  * An array is a pointer and, right after it, its length in bytes. A wrong length is safe: the call returns MLDSA_WRONG_LENGTH and
  * writes nothing. The arrays that a call writes are those without const; they come last. The call writes them only if the result is
@@ -109,32 +110,32 @@ extern "C" {
 #define MLDSA_WRITES_1_BEHIND_5 MLDSA_ARRAY(write_only, 11, 12)
 #define MLDSA_WRITES_2_BEHIND_1 MLDSA_WRITES_1_BEHIND_1 MLDSA_ARRAY(write_only, 5, 6)
 
-/** What a call returns. mldsa_text has a text for each. */
+/** What a call returns. mldsa_text has a text for each. c/exports.py makes of both what other languages have. */
 enum mldsa_status {
     MLDSA_DONE = 0,                   /**< done, and the arrays are written */
     MLDSA_YES = 0,                    /**< the result of a question is yes */
-    MLDSA_NO = 1,                     /**< the result of a question is no */
-    MLDSA_WRONG_LENGTH = 2,           /**< an array has the wrong length */
+    MLDSA_NO = 2,                     /**< the result of a question is no */
+    MLDSA_WRONG_LENGTH = 3,           /**< an array has the wrong length */
     MLDSA_CONTEXT_TOO_LONG = 4,       /**< sign: the context has more than 255 bytes */
-    MLDSA_HASH_CONTEXT_TOO_LONG = 6,  /**< hash_sign: the context has more than 255 bytes */
-    MLDSA_OID_EMPTY = 7,              /**< hash_sign: the object identifier is empty */
-    MLDSA_OID_NOT_DER = 8,            /**< hash_sign: the object identifier is not in DER */
-    MLDSA_DIGEST_TOO_LONG = 9,        /**< hash_sign: the digest has more than 1024 bytes */
-    MLDSA_DIGEST_LENGTH = 10,         /**< hash_sign: the digest has not the length of the function's digests */
-    MLDSA_TOO_MANY_ATTEMPTS = 13,     /**< signing: all 814 attempts were rejected, as with an inconsistent key */
-    MLDSA_KEY_RANGE = 14,             /**< the bytes are no private key */
-    MLDSA_SAMPLING_LIMIT = 15,        /**< rejection sampling reached its limit; no such input is known */
-    MLDSA_BROKEN_STATE = 16,          /**< mldsa_mu_update, mldsa_mu_finish: the last byte of the state is 0 or above 136 */
-    MLDSA_NOT_PREPARED = 17,          /**< a value of this prepared key is out of range, so no call has written it */
-    MLDSA_DER_CUT_SHORT = 18,         /**< an element of the DER is longer than what holds it */
-    MLDSA_DER_TRAILING = 19,          /**< something follows an element of the DER where nothing may */
-    MLDSA_DER_DAMAGED = 20,           /**< the DER has another element than is expected, or a length in another form */
-    MLDSA_DER_VERSION = 21,           /**< the version of the private key is not 0 */
-    MLDSA_DER_ALGORITHM = 22,         /**< the algorithm is none of the three, or has parameters */
-    MLDSA_DER_KEY_LENGTH = 23,        /**< the seed or key has another length than its algorithm's */
-    MLDSA_OTHER_SET = 24,             /**< the key is one of another parameter set */
-    MLDSA_INCONSISTENT = 25,          /**< the parts of the private key do not belong together */
-    MLDSA_NO_SEED = 26                /**< seed_from_der: the private key has no seed */
+    MLDSA_HASH_CONTEXT_TOO_LONG = 5,  /**< hash_sign: the context has more than 255 bytes */
+    MLDSA_OID_EMPTY = 6,              /**< hash_sign: the object identifier is empty */
+    MLDSA_OID_NOT_DER = 7,            /**< hash_sign: the object identifier is not in DER */
+    MLDSA_DIGEST_TOO_LONG = 8,        /**< hash_sign: the digest has more than 1024 bytes */
+    MLDSA_DIGEST_LENGTH = 9,          /**< hash_sign: the digest has not the length of the function's digests */
+    MLDSA_TOO_MANY_ATTEMPTS = 10,     /**< signing: all 814 attempts were rejected, as with an inconsistent key */
+    MLDSA_KEY_RANGE = 11,             /**< the bytes are no private key */
+    MLDSA_SAMPLING_LIMIT = 12,        /**< rejection sampling reached its limit; no such input is known */
+    MLDSA_BROKEN_STATE = 13,          /**< mldsa_mu_update, mldsa_mu_finish: the last byte of the state is 0 or above 136 */
+    MLDSA_NOT_PREPARED = 14,          /**< a value of this prepared key is out of range, so no call has written it */
+    MLDSA_DER_CUT_SHORT = 15,         /**< an element of the DER is longer than what holds it */
+    MLDSA_DER_TRAILING = 16,          /**< something follows an element of the DER where nothing may */
+    MLDSA_DER_DAMAGED = 17,           /**< the DER has another element than is expected, or a length in another form */
+    MLDSA_DER_VERSION = 18,           /**< the version of the private key is not 0 */
+    MLDSA_DER_ALGORITHM = 19,         /**< the algorithm is none of the three, or has parameters */
+    MLDSA_DER_KEY_LENGTH = 20,        /**< the seed or key has another length than its algorithm's */
+    MLDSA_OTHER_SET = 21,             /**< the key is one of another parameter set */
+    MLDSA_INCONSISTENT = 22,          /**< the parts of the private key do not belong together */
+    MLDSA_NO_SEED = 23                /**< seed_from_der: the private key has no seed */
 };
 
 #define MLDSA_SEED_LEN 32
@@ -1040,7 +1041,7 @@ MLDSA_INLINE const char *mldsa_text(uint32_t status)
     case MLDSA_DIGEST_TOO_LONG: return "Hash of message is too long, should not be more than 1KiB";
     case MLDSA_DIGEST_LENGTH: return "HashML-DSA.Sign: digest length does not match the OID";
     case MLDSA_TOO_MANY_ATTEMPTS: return "ML-DSA.Sign: too many attempts";
-    case MLDSA_KEY_RANGE: return "Alg 25: s1 or s2 out of range";
+    case MLDSA_KEY_RANGE: return "the private key is damaged: s1 or s2 is out of range";
     case MLDSA_SAMPLING_LIMIT: return "sampling limit reached";
     case MLDSA_BROKEN_STATE: return "the state of a message in pieces is broken";
     case MLDSA_NOT_PREPARED: return "no call has written this prepared key";

@@ -22,38 +22,36 @@ const AT_ONCE = 1 << 20;
 /** An instance with more memory takes no further call, because the memory of a module never shrinks. */
 const MOST_MEMORY = 2 * AT_ONCE;
 
-const DONE = 0;
-const NO = 1;
-const WRONG_LENGTH = 2;
-const BROKEN_STATE = 16;
-
 /** MLDSA_VERSION of c/mldsa.h. */
 const VERSION = 0x000200;
 
-/** What a status means that is neither done, nor yes or no: the texts of c/mldsa.h. */
-const TEXTS = {
-    [WRONG_LENGTH]: "an array has the wrong length",
-    4: "ML-DSA.Sign: ctx too long",
-    6: "HashML-DSA.Sign: ctx too long",
-    7: "HashML-DSA.Sign: OID is empty",
-    8: "HashML-DSA.Sign: OID is not DER encoded",
-    9: "Hash of message is too long, should not be more than 1KiB",
-    10: "HashML-DSA.Sign: digest length does not match the OID",
-    13: "ML-DSA.Sign: too many attempts",
-    14: "Alg 25: s1 or s2 out of range",
-    15: "sampling limit reached",
-    [BROKEN_STATE]: "the state of a message in pieces is broken",
-    17: "no call has written this prepared key",
-    18: "its DER is cut short",
-    19: "more follows behind the end of its DER",
-    20: "its DER is damaged",
-    21: "it has a private key of another version",
-    22: "its key is not one of ML-DSA-44, ML-DSA-65 or ML-DSA-87",
-    23: "its key has a wrong length",
-    24: "its key is one of another parameter set",
-    25: "the private key is not consistent",
-    26: "it has no seed: an expanded key does not reveal its seed",
+/** The results of calls, with their numbers and texts: `c/exports.py` makes this table from c/mldsa.h. */
+const STATUSES = {
+    DONE: [0, "no error, or the result yes"],
+    NO: [2, "no"],
+    WRONG_LENGTH: [3, "an array has the wrong length"],
+    CONTEXT_TOO_LONG: [4, "ML-DSA.Sign: ctx too long"],
+    HASH_CONTEXT_TOO_LONG: [5, "HashML-DSA.Sign: ctx too long"],
+    OID_EMPTY: [6, "HashML-DSA.Sign: OID is empty"],
+    OID_NOT_DER: [7, "HashML-DSA.Sign: OID is not DER encoded"],
+    DIGEST_TOO_LONG: [8, "Hash of message is too long, should not be more than 1KiB"],
+    DIGEST_LENGTH: [9, "HashML-DSA.Sign: digest length does not match the OID"],
+    TOO_MANY_ATTEMPTS: [10, "ML-DSA.Sign: too many attempts"],
+    KEY_RANGE: [11, "the private key is damaged: s1 or s2 is out of range"],
+    SAMPLING_LIMIT: [12, "sampling limit reached"],
+    BROKEN_STATE: [13, "the state of a message in pieces is broken"],
+    NOT_PREPARED: [14, "no call has written this prepared key"],
+    DER_CUT_SHORT: [15, "its DER is cut short"],
+    DER_TRAILING: [16, "more follows behind the end of its DER"],
+    DER_DAMAGED: [17, "its DER is damaged"],
+    DER_VERSION: [18, "it has a private key of another version"],
+    DER_ALGORITHM: [19, "its key is not one of ML-DSA-44, ML-DSA-65 or ML-DSA-87"],
+    DER_KEY_LENGTH: [20, "its key has a wrong length"],
+    OTHER_SET: [21, "its key is one of another parameter set"],
+    INCONSISTENT: [22, "the private key is not consistent"],
+    NO_SEED: [23, "it has no seed: an expanded key does not reveal its seed"],
 };
+const [DONE, NO, WRONG_LENGTH, BROKEN_STATE] = ["DONE", "NO", "WRONG_LENGTH", "BROKEN_STATE"].map((code) => STATUSES[code][0]);
 
 /** NIST's hash functions: the last byte of the object identifier of each, and the length of its digests. */
 const FUNCTIONS = [
@@ -65,24 +63,31 @@ const FUNCTIONS = [
 
 const atMostBytes = (most) => () => `at most ${most} are allowed`;
 
-/** The array to which a status belongs, and which lengths it may have, where that is known. */
+/** The array to which an error belongs, and which lengths it may have, where that is known. */
 const ABOUT = {
-    4: ["context", atMostBytes(LONGEST_CONTEXT)],
-    6: ["context", atMostBytes(LONGEST_CONTEXT)],
-    7: ["oid"],
-    8: ["oid"],
-    9: ["digest", atMostBytes(1024)],
+    CONTEXT_TOO_LONG: ["context", atMostBytes(LONGEST_CONTEXT)],
+    HASH_CONTEXT_TOO_LONG: ["context", atMostBytes(LONGEST_CONTEXT)],
+    OID_EMPTY: ["oid"],
+    OID_NOT_DER: ["oid"],
+    DIGEST_TOO_LONG: ["digest", atMostBytes(1024)],
     // The library returns this for FUNCTIONS alone.
-    10: ["digest", ({ oid }) => `not ${FUNCTIONS.find(([, arc]) => arc === oid[oid.length - 1])[2]}`],
+    DIGEST_LENGTH: ["digest", ({ oid }) => `not ${FUNCTIONS.find(([, arc]) => arc === oid[oid.length - 1])[2]}`],
 };
 
 const UNSUPPORTED = "this engine lacks BigInt, or the bulk memory or sign extension of WebAssembly: a newer one has them";
 
+/** The name of a result in `STATUSES`, with its number and text. */
+function codeOf(status) {
+    return Object.entries(STATUSES).find(([, [number]]) => number === status);
+}
+
 /** A call that the library rejected. */
 export class MlDsaError extends Error {
     constructor(status, detail) {
-        super((TEXTS[status] ?? "no result of this library") + (detail === undefined ? "" : `: ${detail}`));
+        const [code, [, text]] = codeOf(status) ?? [undefined, [status, "no result of this library"]];
+        super(text + (detail === undefined ? "" : `: ${detail}`));
         this.name = "MlDsaError";
+        this.code = code;
         this.status = status;
     }
 }
@@ -253,14 +258,14 @@ function done([status, ...written], named = {}) {
     if (status === DONE) {
         return written;
     }
-    const [name, allowed] = ABOUT[status] ?? [];
+    const [name, allowed] = ABOUT[codeOf(status)?.[0]] ?? [];
     const limit = () => (allowed === undefined ? "" : `, and ${allowed(named)}`);
     throw new MlDsaError(status, named[name] && `${name} has ${named[name].length} bytes${limit()}`);
 }
 
 /** The result of a question. */
 function answer([status]) {
-    if (status > NO) {
+    if (status !== DONE && status !== NO) {
         throw new MlDsaError(status);
     }
     return status === DONE;

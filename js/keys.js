@@ -6,9 +6,7 @@ import { atMost, bytesIn, webCrypto } from "./engine.js";
 const PUBLIC = "PUBLIC KEY";
 const PRIVATE = "PRIVATE KEY";
 const LINE = 64;
-/** Statuses of c/mldsa.h: a key of another set, and a private key without a seed. */
-const OTHER_SET = 24;
-const NO_SEED = 26;
+/** The parameter sets. */
 const NUMBERS = [44, 65, 87];
 /** What reads the DER of each kind. */
 const BY_DER = { [PUBLIC]: "publicKeyFromDer", [PRIVATE]: "privateKeyFromDer or seedFromDer" };
@@ -146,13 +144,13 @@ function readBy(sets, call, der) {
         try {
             return [set, sets[`mlDsa${set}`][call](der)];
         } catch (error) {
-            if (error.status === NO_SEED) {
+            if (error.code === "NO_SEED") {
                 return [set, undefined];
             }
             if (error.name !== "MlDsaError") {
                 throw error;
             }
-            if (error.status !== OTHER_SET) {
+            if (error.code !== "OTHER_SET") {
                 refuse(error.message);
             }
         }

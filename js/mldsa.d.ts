@@ -1,20 +1,58 @@
+/** The names of errors: `c/exports.py` makes this type from c/mldsa.h. */
+export type ErrorCode =
+    /** an array has the wrong length */
+    | "WRONG_LENGTH"
+    /** ML-DSA.Sign: ctx too long */
+    | "CONTEXT_TOO_LONG"
+    /** HashML-DSA.Sign: ctx too long */
+    | "HASH_CONTEXT_TOO_LONG"
+    /** HashML-DSA.Sign: OID is empty */
+    | "OID_EMPTY"
+    /** HashML-DSA.Sign: OID is not DER encoded */
+    | "OID_NOT_DER"
+    /** Hash of message is too long, should not be more than 1KiB */
+    | "DIGEST_TOO_LONG"
+    /** HashML-DSA.Sign: digest length does not match the OID */
+    | "DIGEST_LENGTH"
+    /** ML-DSA.Sign: too many attempts */
+    | "TOO_MANY_ATTEMPTS"
+    /** the private key is damaged: s1 or s2 is out of range */
+    | "KEY_RANGE"
+    /** sampling limit reached */
+    | "SAMPLING_LIMIT"
+    /** the state of a message in pieces is broken */
+    | "BROKEN_STATE"
+    /** no call has written this prepared key */
+    | "NOT_PREPARED"
+    /** its DER is cut short */
+    | "DER_CUT_SHORT"
+    /** more follows behind the end of its DER */
+    | "DER_TRAILING"
+    /** its DER is damaged */
+    | "DER_DAMAGED"
+    /** it has a private key of another version */
+    | "DER_VERSION"
+    /** its key is not one of ML-DSA-44, ML-DSA-65 or ML-DSA-87 */
+    | "DER_ALGORITHM"
+    /** its key has a wrong length */
+    | "DER_KEY_LENGTH"
+    /** its key is one of another parameter set */
+    | "OTHER_SET"
+    /** the private key is not consistent */
+    | "INCONSISTENT"
+    /** it has no seed: an expanded key does not reveal its seed */
+    | "NO_SEED"
+    ;
+
 /**
- * An error of the library. `message` begins with the text of the status, as `mldsa_text` of c/mldsa.h gives it. If the
+ * An error of the library. `message` begins with the text of the error, as `mldsa_text` of c/mldsa.h gives it. If the
  * error is about an array, its name, its length and the right length follow.
  */
 export class MlDsaError extends Error {
     readonly name: "MlDsaError";
-    /**
-     * The numbers that the calls in C return:
-     * - any array: 2, it has a wrong length
-     * - signing: 4 and 6, the context of a message or digest is too long; 7 and 8, `oid` is empty or no DER; 9 and 10,
-     *   the digest is too long or not as long as its function's; 13, all attempts were rejected; 15, rejection sampling
-     *   reached its limit
-     * - `MessageHasher`: 16, an earlier call threw
-     * - private key: 14, out of range; 25, not consistent; 26, without a seed
-     * - DER: 18, cut short; 19, followed by more; 20, damaged; 21, of another version; 22, of another algorithm; 23, of a
-     *   wrong length; 24, of another parameter set
-     */
+    /** The error's name in C without `MLDSA_`. It is undefined only if the module is newer than these files. */
+    readonly code: ErrorCode;
+    /** The number that the call in C returns. */
     readonly status: number;
 }
 
@@ -62,8 +100,8 @@ export interface Random {
 
 /**
  * A message that is hashed in pieces. Both calls throw a `TypeError` for other arguments, which changes nothing, and a
- * `RangeError` if the module's memory can't grow. After that, or any other error, each call throws an `MlDsaError` with
- * status 16, because a part of the piece may be hashed already: begin again.
+ * `RangeError` if the module's memory can't grow. After that, or any other error, each call throws an `MlDsaError`
+ * `BROKEN_STATE`, because a part of the piece may be hashed already: begin again.
  */
 export interface MessageHasher {
     /**
@@ -86,10 +124,10 @@ export interface MessageHasher {
  * are no prepared keys.
  *
  * Each call throws a `TypeError` for an argument that is no `Uint8Array`, for options that are no plain object or have
- * another name, and for too many arguments; an `MlDsaError` with status 2 for an array of a wrong length, but not for a
+ * another name, and for too many arguments; an `MlDsaError` `WRONG_LENGTH` for an array of a wrong length, but not for a
  * signature to be verified; and a `RangeError` if the module's memory can't grow. Other errors stand
- * at the calls. Status 13 (all 814 attempts were rejected) comes with a damaged private key; nobody knows an input that
- * gives 15 (sampling limit reached).
+ * at the calls. `TOO_MANY_ATTEMPTS` comes with a damaged private key; nobody knows an input that
+ * gives `SAMPLING_LIMIT`.
  */
 export interface MlDsa {
     /** `ML-DSA-44`, `ML-DSA-65` or `ML-DSA-87`. */
@@ -102,7 +140,7 @@ export interface MlDsa {
      * @example
      * const { publicKey, privateKey, seed } = mlDsa65.keygen();
      * mlDsa65.keygen(seed).publicKey; // publicKey
-     * @throws `MlDsaError` 15; `Error` if you pass no seed and the engine has no `crypto.getRandomValues`.
+     * @throws `MlDsaError` `SAMPLING_LIMIT`; `Error` if you pass no seed and the engine has no `crypto.getRandomValues`.
      */
     keygen(): KeyPair & { seed: Bytes };
     keygen(seed?: Uint8Array): KeyPair;
@@ -110,7 +148,7 @@ export interface MlDsa {
      * Computes the public key that belongs to a private one.
      * @example
      * mlDsa65.publicKey(privateKey); // publicKey
-     * @throws `MlDsaError` 14 if the bytes are no private key, or 15.
+     * @throws `MlDsaError` `KEY_RANGE` if the bytes are no private key, or `SAMPLING_LIMIT`.
      */
     publicKey(privateKey: Uint8Array): Bytes;
     /**
@@ -124,8 +162,8 @@ export interface MlDsa {
      * Signs a message (Algorithm 2).
      * @example
      * const signature = mlDsa65.sign(privateKey, message, { context });
-     * @throws `MlDsaError` 4 if the context has more than 255 bytes, 14 if the bytes are no private key, 13 or 15;
-     * `Error` without `random`, as with `keygen` without a seed.
+     * @throws `MlDsaError` `CONTEXT_TOO_LONG`, `KEY_RANGE` if the bytes are no private key, `TOO_MANY_ATTEMPTS` or
+     * `SAMPLING_LIMIT`; `Error` without `random`, as with `keygen` without a seed.
      */
     sign(privateKey: Uint8Array, message: Uint8Array, options?: Context & Random): Bytes;
     /**
@@ -141,8 +179,8 @@ export interface MlDsa {
      * has at most 1,024 bytes.
      * @example
      * const signature = mlDsa65.hashSign(privateKey, digest, oids["SHA-384"], { context });
-     * @throws `MlDsaError` 6 if the context has more than 255 bytes, 7 or 8 if `oid` is empty or not DER, 9 or 10 if
-     * the digest is too long or has another length, 14 if the bytes are no private key, 13 or 15; `Error` as with `sign`.
+     * @throws `MlDsaError` `HASH_CONTEXT_TOO_LONG`, `OID_EMPTY`, `OID_NOT_DER`, `DIGEST_TOO_LONG`, `DIGEST_LENGTH`,
+     * `KEY_RANGE`, `TOO_MANY_ATTEMPTS` or `SAMPLING_LIMIT`; `Error` as with `sign`.
      */
     hashSign(privateKey: Uint8Array, digest: Uint8Array, oid: Uint8Array, options?: Context & Random): Bytes;
     /**
@@ -160,21 +198,21 @@ export interface MlDsa {
      * @example
      * const mu = mlDsa65.messageHasher(publicKey, { context }).update(message).mu();
      * mlDsa65.verifyMu(publicKey, mu, signature); // true
-     * @throws `MlDsaError` 4 if the context has more than 255 bytes.
+     * @throws `MlDsaError` `CONTEXT_TOO_LONG` if the context has more than 255 bytes.
      */
     messageHasher(publicKey: Uint8Array, options?: Context): MessageHasher;
     /**
      * Begins a message in pieces, whose `mu` is for `signMu`, with the hash `tr` that the private key keeps.
      * @example
      * const mu = mlDsa65.messageHasherOfPrivate(privateKey, { context }).update(message).mu();
-     * @throws `MlDsaError` 4 if the context has more than 255 bytes.
+     * @throws `MlDsaError` `CONTEXT_TOO_LONG` if the context has more than 255 bytes.
      */
     messageHasherOfPrivate(privateKey: Uint8Array, options?: Context): MessageHasher;
     /**
      * Signs the message that has this `mu` of 64 bytes (FIPS 204, Algorithm 7, line 6), which a `MessageHasher` makes.
      * @example
      * const signature = mlDsa65.signMu(privateKey, mlDsa65.messageHasherOfPrivate(privateKey).update(message).mu());
-     * @throws `MlDsaError` 14 if the bytes are no private key, 13 or 15; `Error` as with `sign`.
+     * @throws `MlDsaError` `KEY_RANGE`, `TOO_MANY_ATTEMPTS` or `SAMPLING_LIMIT`; `Error` as with `sign`.
      */
     signMu(privateKey: Uint8Array, mu: Uint8Array, options?: Random): Bytes;
     /**
@@ -188,7 +226,7 @@ export interface MlDsa {
      * `messageHasherOfPrivate`.
      * @example
      * mlDsa65.checkPrivateKey(privateKey);
-     * @throws `MlDsaError` 14.
+     * @throws `MlDsaError` `KEY_RANGE`.
      */
     checkPrivateKey(privateKey: Uint8Array): void;
     /**
@@ -196,7 +234,7 @@ export interface MlDsa {
      * `publicKey` returns.
      * @example
      * mlDsa65.isPair(privateKey); // true
-     * @throws `MlDsaError` 14 if the bytes are no private key, or 15.
+     * @throws `MlDsaError` `KEY_RANGE` if the bytes are no private key, or `SAMPLING_LIMIT`.
      */
     isPair(privateKey: Uint8Array): boolean;
     /**
@@ -217,7 +255,7 @@ export interface MlDsa {
      * Reads a public key in DER.
      * @example
      * mlDsa65.publicKeyFromDer(mlDsa65.publicKeyToDer(publicKey)).length; // 1952
-     * @throws `MlDsaError` 18 to 20, 22 or 23 for other bytes, 24 for a key of another set.
+     * @throws `MlDsaError` `DER_..` for other bytes, `OTHER_SET` for a key of another set.
      */
     publicKeyFromDer(der: Uint8Array): Bytes;
     /**
@@ -230,28 +268,29 @@ export interface MlDsa {
      * Writes a private key in DER, as its expanded key.
      * @example
      * mlDsa65.privateKeyToDer(privateKey).length; // 4060
-     * @throws `MlDsaError` 25 if `isPair` is false for it, or 15.
+     * @throws `MlDsaError` `INCONSISTENT` if `isPair` is false for it, or `SAMPLING_LIMIT`.
      */
     privateKeyToDer(privateKey: Uint8Array): Bytes;
     /**
      * Writes a private key in DER, as its seed and the expanded key that the seed generates.
      * @example
      * mlDsa65.bothToDer(new Uint8Array(32).fill(7)).length; // 4098
-     * @throws `MlDsaError` 15.
+     * @throws `MlDsaError` `SAMPLING_LIMIT`.
      */
     bothToDer(seed: Uint8Array): Bytes;
     /**
      * Reads the expanded key of a private key in DER, in any of the three forms.
      * @example
      * mlDsa65.privateKeyFromDer(mlDsa65.privateKeyToDer(privateKey)).length; // 4032
-     * @throws `MlDsaError` 18 to 23 for other bytes, 24 for a key of another set, 25 if its parts don't belong together, 15.
+     * @throws `MlDsaError` `DER_..` for other bytes, `OTHER_SET` for a key of another set, `INCONSISTENT` if its parts don't
+     * belong together, `SAMPLING_LIMIT`.
      */
     privateKeyFromDer(der: Uint8Array): Bytes;
     /**
      * Reads the seed of a private key in DER.
      * @example
      * mlDsa65.seedFromDer(mlDsa65.seedToDer(new Uint8Array(32).fill(7)))[31]; // 7
-     * @throws `MlDsaError` as with `privateKeyFromDer`, or 26 if it has no seed.
+     * @throws `MlDsaError` as with `privateKeyFromDer`, or `NO_SEED`.
      */
     seedFromDer(der: Uint8Array): Bytes;
 }

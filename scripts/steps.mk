@@ -6,7 +6,7 @@ python = flock out/python.lock
 
 # Without the kit, over what cargo builds: what others wait for, and then the longest first.
 TEST = tools library definitions rust rust-others programs mlsign-rust lint fuzzers c-gcc c-clang c-sanitized js erasing python \
-	vectors-wasm vectors-rust vectors-c vectors-mlsign alike refusals pages typed js-page erased tokens tokens-tested sets \
+	vectors-wasm vectors-rust vectors-c vectors-mlsign alike refusals pages typed js-page erased tokens tokens-tested sets results \
 	installs
 # With the kit: `rt ci`, and what is native, over what it left.
 CHECK = proof tools-check archives secrets ledger mlsign growths native-c native-c-v3 native-c-aarch64 native-c-musl \
@@ -31,6 +31,7 @@ installs: library ; $(step) cc make -- packaging/test_install.py
 tokens: ; $(step) -- tools/tokens
 tokens-tested: ; $(step) -- tools/test_tokens.py
 sets: ; $(step) -- tools/sets --check
+results: ; $(step) -- c/exports.py --check
 erased: ; $(step) -- tools/erase --check
 erasing: ; $(step) -- tools/test_erase.py
 programs: tools ; $(step) cargo -- scripts/programs test

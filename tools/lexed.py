@@ -32,7 +32,7 @@ FOR_RUST = {f"// Rust: #[inline({it})]": f"# [ inline ( {it} ) ]" for it in ("al
 # The comments that ask for more compilations of a function, and the macros around it that make them.
 LEVELS = {"// Compiled for AVX2 too.": "with_avx2", "// Compiled for SSE4.2 and AVX2 too.": "with_sse42_and_avx2"}
 ATTRIBUTE = re.compile(r"""derive\(((Clone|Copy|Debug|Drop|Eq|Error|PartialEq),?)+\)|inline\((always|never)\)|
-    doc\(hidden\)|rattlefmt::skip|unsafe\(no_mangle\)|error\("[^"]*"(,sentence\(\*\.0\))?\)""", re.X)
+    doc\(hidden\)|rattlefmt::skip|unsafe\(no_mangle\)|error\("[^"]*"(,\.0\.as_str\(\))?\)""", re.X)
 # Macros that a source declares, and others that it calls.
 DECLARED = set("checked_array numbers of_set words words_of_negatives zetas".split())
 CALLED = {*DECLARED, *"arg bail each format format_args matches println unreachable vec".split()}

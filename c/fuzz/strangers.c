@@ -11,6 +11,7 @@ static int held;
 static uint64_t sum;
 
 #define HOLDS(what) ((what) ? (void)0 : broken(#what, __LINE__))
+#define JUDGED(status) ((status) == MLDSA_YES || (status) == MLDSA_NO)
 
 static void broken(const char *what, int line)
 {
@@ -157,7 +158,7 @@ static void public_key(const struct set *s, struct input *in)
     struct bytes message = taken(in, in->left);
     int fits = key.length == s->public_key_len && signature.length == s->signature_len;
     uint32_t verdict = said(s->verify(key.at, key.length, message.at, message.length, context.at, context.length, signature.at, signature.length));
-    HOLDS(fits ? verdict <= MLDSA_NO : verdict == MLDSA_WRONG_LENGTH);
+    HOLDS(fits ? JUDGED(verdict) : verdict == MLDSA_WRONG_LENGTH);
     HOLDS(s->accepts(key.at, key.length, message.at, message.length, context.at, context.length, signature.at, signature.length) == (verdict == MLDSA_YES));
     uint8_t *mu = array(64), *prepared = array(s->prepared_public_key_len);
     uint32_t hashed = mu_of(s->mu_begin, key.at, key.length, context, message, cut, mu);
@@ -167,7 +168,7 @@ static void public_key(const struct set *s, struct input *in)
     else if (fits)
         HOLDS(verdict == MLDSA_NO);
     uint32_t digest = said(s->hash_verify(key.at, key.length, message.at, message.length, context.at, context.length, SHA256_OID, 11, signature.at, signature.length));
-    HOLDS(fits ? digest <= MLDSA_NO : digest == MLDSA_WRONG_LENGTH);
+    HOLDS(fits ? JUDGED(digest) : digest == MLDSA_WRONG_LENGTH);
     size_t length = s->prepared_public_key_len;
     uint32_t made = wrote(s->prepare_public_key(key.at, key.length, prepared, length), prepared, length);
     HOLDS(made == (key.length == s->public_key_len ? MLDSA_DONE : MLDSA_WRONG_LENGTH));
@@ -188,7 +189,7 @@ static void private_key(const struct set *s, struct input *in, int signs_always)
     uint32_t range = said(s->check_private_key(key.at, key.length));
     HOLDS(fits ? range == MLDSA_DONE || range == MLDSA_KEY_RANGE : range == MLDSA_WRONG_LENGTH);
     uint32_t whole = said(s->is_whole(key.at, key.length)), pair = said(s->is_pair(key.at, key.length));
-    HOLDS(range == MLDSA_DONE ? whole <= MLDSA_NO && pair <= MLDSA_NO && pair >= whole : whole == range && pair == range);
+    HOLDS(range == MLDSA_DONE ? JUDGED(whole) && JUDGED(pair) && pair >= whole : whole == range && pair == range);
     HOLDS(wrote(s->public_key(key.at, key.length, public_key, s->public_key_len), public_key, s->public_key_len) == range);
     uint8_t *file = array(s->private_key_der_len), *read = array(fits ? key.length : 0);
     uint32_t filed = wrote(s->private_key_to_der(key.at, key.length, file, s->private_key_der_len), file, s->private_key_der_len);
@@ -265,7 +266,7 @@ static void prepared(struct input in)
             HOLDS(s->sign_mu_prepared(key, length, mu, 64, seed, 32, third, sig) == signed_ && !memcmp(third, other, sig));
     } else {
         uint32_t verdict = said(s->verify_prepared(key, length, message.at, message.length, context.at, 0, signature, sig));
-        HOLDS(is_prepared ? verdict <= MLDSA_NO : verdict == MLDSA_NOT_PREPARED);
+        HOLDS(is_prepared ? JUDGED(verdict) : verdict == MLDSA_NOT_PREPARED);
         HOLDS(!is_same || verdict == MLDSA_YES);
         if (!memcmp(key + pk, was + pk, 64))
             HOLDS(s->verify_mu_prepared(key, length, mu, 64, signature, sig) == verdict);

@@ -148,10 +148,10 @@ test("private keys that OpenSSL wrote, in each form, and those that are refused"
         assert.throws(() => readPrivateKey(sets, pem(both, "\n", "PRIVATE KEY")), says("the private key is not consistent"));
         assert.throws(() => readPrivateKey(sets, ofOpenssl(number).pem), says("it has a PUBLIC KEY, and not a PRIVATE KEY"));
         assert.throws(() => readPrivateKey(sets, mlDsa.seedToDer(SEED)), says("it seems to be DER: privateKeyFromDer or seedFromDer of a set reads it"));
-        assert.throws(() => mlDsa.privateKeyToDer(new Uint8Array(pair.privateKey.length).fill(255)), { name: "MlDsaError", status: 25 });
-        assert.throws(() => mlDsa.seedFromDer(mlDsa.privateKeyToDer(pair.privateKey)), { name: "MlDsaError", status: 26 });
+        assert.throws(() => mlDsa.privateKeyToDer(new Uint8Array(pair.privateKey.length).fill(255)), { name: "MlDsaError", code: "INCONSISTENT" });
+        assert.throws(() => mlDsa.seedFromDer(mlDsa.privateKeyToDer(pair.privateKey)), { name: "MlDsaError", code: "NO_SEED" });
         for (const other of [44, 65, 87].filter((it) => it !== number)) {
-            assert.throws(() => sets[`mlDsa${other}`].publicKeyFromDer(mlDsa.publicKeyToDer(pair.publicKey)), { status: 24 });
+            assert.throws(() => sets[`mlDsa${other}`].publicKeyFromDer(mlDsa.publicKeyToDer(pair.publicKey)), { code: "OTHER_SET" });
         }
     }
 });
@@ -197,7 +197,7 @@ test("a public key of another length is refused with the one that it has to have
     for (const [number, length] of [[44, 1312], [65, 1952], [87, 2592]]) {
         for (const other of [0, length - 1, length + 1]) {
             const message = `an array has the wrong length: publicKey has ${other} bytes, and not ${length}`;
-            const isRight = (error) => error instanceof MlDsaError && error.status === 2 && error.message === message;
+            const isRight = (error) => error instanceof MlDsaError && error.code === "WRONG_LENGTH" && error.message === message;
             assert.throws(() => writePublicKey(sets[`mlDsa${number}`], new Uint8Array(other)), isRight);
         }
     }
@@ -207,10 +207,10 @@ test("a private key of another length is refused with those that it may have", (
     for (const [number, length] of [[44, 2560], [65, 4032], [87, 4896]]) {
         for (const other of [0, 31, 33, length - 1, length + 1]) {
             const message = `an array has the wrong length: key has ${other} bytes, and neither 32, as a seed, nor ${length}`;
-            const isRight = (error) => error instanceof MlDsaError && error.status === 2 && error.message === message;
+            const isRight = (error) => error instanceof MlDsaError && error.code === "WRONG_LENGTH" && error.message === message;
             assert.throws(() => writePrivateKey(sets[`mlDsa${number}`], new Uint8Array(other)), isRight);
         }
-        assert.throws(() => writePrivateKey(sets[`mlDsa${number}`], new Uint8Array(length).fill(255)), { name: "MlDsaError", status: 25 });
+        assert.throws(() => writePrivateKey(sets[`mlDsa${number}`], new Uint8Array(length).fill(255)), { name: "MlDsaError", code: "INCONSISTENT" });
     }
 });
 

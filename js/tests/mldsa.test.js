@@ -28,8 +28,9 @@ async function withCounted(t, name) {
     });
     return [await load(code), () => calls];
 }
-/** An error of a status, with its text and what follows that. */
-const refused = (status, detail) => (error) => error instanceof MlDsaError && error.status === status && error.message === TEXTS[status] + (detail ? `: ${detail}` : "");
+/** An error of this name, with its number and text and what follows that. */
+const refused = (code, detail) => (error) =>
+    error instanceof MlDsaError && error.code === code && error.status === numbers[`MLDSA_${code}`] && error.message === TEXTS[error.status] + (detail ? `: ${detail}` : "");
 
 /** The texts and numbers of the header. */
 const header = text("c/mldsa.h");
@@ -98,12 +99,13 @@ test("lengths and texts are those of the header", () => {
             assert.equal(length, Number(header.match(new RegExp(`#define MLDSA_${name}_LEN (\\d+)`))[1]));
         }
     }
-    for (const status in TEXTS) {
-        if (status > 1) {
-            assert.equal(new MlDsaError(Number(status)).message, TEXTS[status]);
+    for (const [name, number] of Object.entries(numbers)) {
+        if (name !== "MLDSA_YES") {
+            assert.ok(refused(name.slice(6))(new MlDsaError(number)), name);
         }
     }
-    assert.equal(Object.keys(TEXTS).length, 23);
+    const { code, message } = new MlDsaError(1);
+    assert.deepEqual([code, message], [undefined, "no result of this library"]);
 });
 
 test("each array of a wrong length is refused by its name, but a signature is not valid", () => {
@@ -138,7 +140,7 @@ test("each array of a wrong length is refused by its name, but a signature is no
         for (const [name, [array, ...made]] of Object.entries(calls)) {
             for (const it of wrong(array)) {
                 for (const call of made) {
-                    assert.throws(() => call(it), refused(2, `${name} has ${it.length} bytes, and not ${array.length}`));
+                    assert.throws(() => call(it), refused("WRONG_LENGTH", `${name} has ${it.length} bytes, and not ${array.length}`));
                 }
             }
         }
@@ -146,7 +148,7 @@ test("each array of a wrong length is refused by its name, but a signature is no
             assert.equal(set.verify(publicKey, message, it), false);
             assert.equal(set.hashVerify(publicKey, digest, oid, it), false);
             assert.equal(set.verifyMu(publicKey, mu, it), false);
-            assert.throws(() => set.verify(publicKey.subarray(1), message, it), refused(2, `publicKey has ${publicKey.length - 1} bytes, and not ${publicKey.length}`));
+            assert.throws(() => set.verify(publicKey.subarray(1), message, it), refused("WRONG_LENGTH", `publicKey has ${publicKey.length - 1} bytes, and not ${publicKey.length}`));
         }
     }
 });
@@ -160,18 +162,18 @@ test("what signing refuses otherwise", () => {
         const context = new Uint8Array(256);
         const signature = set.sign(privateKey, digest);
         const contextsLength = "context has 256 bytes, and at most 255 are allowed";
-        assert.throws(() => set.sign(privateKey, digest, { context }), refused(4, contextsLength));
+        assert.throws(() => set.sign(privateKey, digest, { context }), refused("CONTEXT_TOO_LONG", contextsLength));
         assert.equal(set.verify(publicKey, digest, signature, { context }), false);
-        assert.throws(() => set.hashSign(privateKey, digest, oid, { context }), refused(6, contextsLength));
-        assert.throws(() => set.hashSign(privateKey, digest, new Uint8Array(0)), refused(7, "oid has 0 bytes"));
-        assert.throws(() => set.hashSign(privateKey, digest, oid.subarray(1)), refused(8, "oid has 10 bytes"));
-        assert.throws(() => set.hashSign(privateKey, new Uint8Array(1025), new Uint8Array([6, 1, 42])), refused(9, "digest has 1025 bytes, and at most 1024 are allowed"));
-        assert.throws(() => set.hashSign(privateKey, digest.subarray(1), oid), refused(10, "digest has 31 bytes, and not 32"));
+        assert.throws(() => set.hashSign(privateKey, digest, oid, { context }), refused("HASH_CONTEXT_TOO_LONG", contextsLength));
+        assert.throws(() => set.hashSign(privateKey, digest, new Uint8Array(0)), refused("OID_EMPTY", "oid has 0 bytes"));
+        assert.throws(() => set.hashSign(privateKey, digest, oid.subarray(1)), refused("OID_NOT_DER", "oid has 10 bytes"));
+        assert.throws(() => set.hashSign(privateKey, new Uint8Array(1025), new Uint8Array([6, 1, 42])), refused("DIGEST_TOO_LONG", "digest has 1025 bytes, and at most 1024 are allowed"));
+        assert.throws(() => set.hashSign(privateKey, digest.subarray(1), oid), refused("DIGEST_LENGTH", "digest has 31 bytes, and not 32"));
         const damaged = privateKey.slice();
         damaged[128] = 255; // a coefficient of s1 above eta
-        assert.throws(() => set.sign(damaged, digest), refused(14));
-        assert.throws(() => set.publicKey(damaged), refused(14));
-        assert.throws(() => set.checkPrivateKey(damaged), refused(14));
+        assert.throws(() => set.sign(damaged, digest), refused("KEY_RANGE"));
+        assert.throws(() => set.publicKey(damaged), refused("KEY_RANGE"));
+        assert.throws(() => set.checkPrivateKey(damaged), refused("KEY_RANGE"));
         const other = privateKey.slice();
         other[other.length - 1] ^= 1; // of t0
         assert.equal(set.isWhole(other), false);
@@ -257,8 +259,8 @@ test("a hasher of which a call threw takes no other", async (t) => {
     // Of this piece two parts of three are hashed.
     assert.throws(() => hasher.update(new Uint8Array(3 << 20)), { name: "RangeError", message: "the stack ended" });
     for (let again = 0; again < 2; again++) {
-        assert.throws(() => hasher.update(new Uint8Array(3 << 20)), refused(16, "a call of this hasher threw"));
-        assert.throws(() => hasher.mu(), refused(16, "a call of this hasher threw"));
+        assert.throws(() => hasher.update(new Uint8Array(3 << 20)), refused("BROKEN_STATE", "a call of this hasher threw"));
+        assert.throws(() => hasher.mu(), refused("BROKEN_STATE", "a call of this hasher threw"));
     }
     const whole = set.messageHasher(publicKey).update(new Uint8Array(3 << 20)).mu();
     assert.deepEqual(whole, sets.mlDsa44.messageHasher(publicKey).update(new Uint8Array(3 << 20)).mu());
@@ -273,7 +275,7 @@ test("an array whose properties lie is taken as it is", () => {
         const lies = (array) => Object.defineProperty(array, "length", { value: length });
         assert.deepEqual(set.sign(privateKey, lies(message()), { random: ZEROS }), wanted);
         assert.equal(set.verify(lies(publicKey.slice()), message(), lies(wanted.slice())), true);
-        assert.throws(() => set.verify(lies(new Uint8Array(50000)), message(), wanted), refused(2, "publicKey has 50000 bytes, and not 1312"));
+        assert.throws(() => set.verify(lies(new Uint8Array(50000)), message(), wanted), refused("WRONG_LENGTH", "publicKey has 50000 bytes, and not 1312"));
         const mu = set.messageHasher(publicKey).update(lies(message())).mu();
         assert.equal(set.verifyMu(publicKey, mu, wanted), true);
         const file = lies(utf8(writePublicKey(set, lies(publicKey.slice()))));
@@ -462,7 +464,7 @@ test("digests of each hash function", () => {
         assert.equal(set.hashVerify(publicKey, digest, oids[name], signature, { context: utf8(name) }), true);
         assert.equal(set.hashVerify(publicKey, digest, oids[name], signature), false);
         assert.equal(set.verify(publicKey, digest, signature, { context: utf8(name) }), false);
-        assert.throws(() => set.hashSign(privateKey, new Uint8Array(size + 1), oids[name]), refused(10, `digest has ${size + 1} bytes, and not ${size}`));
+        assert.throws(() => set.hashSign(privateKey, new Uint8Array(size + 1), oids[name]), refused("DIGEST_LENGTH", `digest has ${size + 1} bytes, and not ${size}`));
         // M' of FIPS 204, Algorithm 4.
         const tr = shake("shake256", publicKey, 64);
         const mu = shake("shake256", Buffer.concat([tr, Buffer.from([1, name.length]), utf8(name), oids[name], digest]), 64);
@@ -500,7 +502,7 @@ test("a message in pieces", () => {
             assert.deepEqual(set.signMu(privateKey, mu, { random: ZEROS }), signature);
             assert.equal(set.verifyMu(publicKey, mu, signature), true);
         }
-        assert.throws(() => set.messageHasher(publicKey, { context: new Uint8Array(256) }), refused(4, "context has 256 bytes, and at most 255 are allowed"));
+        assert.throws(() => set.messageHasher(publicKey, { context: new Uint8Array(256) }), refused("CONTEXT_TOO_LONG", "context has 256 bytes, and at most 255 are allowed"));
         assert.throws(() => set.messageHasher(publicKey).update("text"), TypeError);
         assert.equal(set.isPair(privateKey), true);
         privateKey[64] ^= 1; // of tr
@@ -649,16 +651,16 @@ test("the module's memory stays small, however long an array was", async (t) => 
         assert.equal(set.verify(made.publicKey, long, signature), false);
         set.messageHasher(made.publicKey).update(long).mu();
         assert.ok(isSmall(), "after verifying a long message");
-        assert.throws(() => set.sign(made.privateKey, long, { context: long.subarray(0, 256) }), refused(4, "context has 256 bytes, and at most 255 are allowed"));
+        assert.throws(() => set.sign(made.privateKey, long, { context: long.subarray(0, 256) }), refused("CONTEXT_TOO_LONG", "context has 256 bytes, and at most 255 are allowed"));
         assert.equal(set.verify(made.publicKey, long, signature, { context: long.subarray(0, 256) }), false);
         assert.ok(isSmall(), "after a long message with a context that is too long");
         assert.equal(memories.length, before, "one instance hashed all pieces");
         // Other arrays that are too long take an instance of their own, of which nothing stays.
         const calls = [
-            () => assert.throws(() => set.sign(made.privateKey, SEED, { context: long }), { status: 4 }),
-            () => assert.throws(() => set.hashSign(made.privateKey, long, oids["SHA-256"]), { status: 9 }),
+            () => assert.throws(() => set.sign(made.privateKey, SEED, { context: long }), { code: "CONTEXT_TOO_LONG" }),
+            () => assert.throws(() => set.hashSign(made.privateKey, long, oids["SHA-256"]), { code: "DIGEST_TOO_LONG" }),
             () => assert.equal(set.hashVerify(made.publicKey, long, oids["SHA-256"], signature), false),
-            () => assert.throws(() => set.publicKeyFromDer(long), { status: 20 }),
+            () => assert.throws(() => set.publicKeyFromDer(long), { code: "DER_DAMAGED" }),
         ];
         for (const call of calls) {
             call();
@@ -701,14 +703,14 @@ test("a long message is refused as a short one is", () => {
         damaged[128] = 255; // a coefficient of s1 above eta
         const [short, context] = [privateKey.subarray(1), new Uint8Array(256)];
         const signature = set.signMu(privateKey, new Uint8Array(64));
-        const contextsLength = refused(4, "context has 256 bytes, and at most 255 are allowed");
-        const keysLength = (name, array) => refused(2, `${name} has ${array.length} bytes, and not ${array.length + 1}`);
+        const contextsLength = refused("CONTEXT_TOO_LONG", "context has 256 bytes, and at most 255 are allowed");
+        const keysLength = (name, array) => refused("WRONG_LENGTH", `${name} has ${array.length} bytes, and not ${array.length + 1}`);
         for (const message of [utf8("m"), new Uint8Array(2 ** 20 + 1)]) {
             // The first of several errors is the same.
             const rows = [
                 [contextsLength, privateKey, { context }],
-                [refused(14), damaged, {}],
-                [refused(14), damaged, { context }],
+                [refused("KEY_RANGE"), damaged, {}],
+                [refused("KEY_RANGE"), damaged, { context }],
                 [keysLength("privateKey", short), short, { context, random: SEED.subarray(1) }],
                 [keysLength("random", SEED.subarray(1)), damaged, { context, random: SEED.subarray(1) }],
                 [{ name: "TypeError", message: "random is not a Uint8Array" }, damaged, { context, random: "" }],

@@ -13,7 +13,8 @@ from typing import (TYPE_CHECKING, Any, Callable, ClassVar, ContextManager, Dict
 from . import _files, _library
 from ._errors import InvalidSignature, KeyFileError, SigningError
 from ._interface import OIDS
-from ._library import DONE, MU, NO, NO_SEED, OTHER_SET, RANDOM, SEED, SEED_DER, SETS, STATE, ParameterSet
+from ._library import (DONE, INCONSISTENT, KEY_RANGE, MU, NO, NO_SEED, OTHER_SET, RANDOM, SEED, SEED_DER, SETS, STATE,
+                       ParameterSet)
 from ._serialization import Encoding, NoEncryption, PrivateFormat, PublicFormat
 
 if TYPE_CHECKING:
@@ -568,8 +569,8 @@ class PrivateKey(_Signer, _Unpickled):
         made._seed = None
         made._fill(set_, _sized("the private key", data, set_.private_key, "load_pem_private_key"))
         status = made._asked("is_pair")
-        if status in (NO, _library.KEY_RANGE):
-            raise ValueError("the private key is not consistent")
+        if status in (NO, KEY_RANGE):
+            raise ValueError(_library.text(INCONSISTENT))
         _done(status)
         made._public = made._made("public_key", set_.public_key)
         return made
@@ -588,7 +589,7 @@ class PrivateKey(_Signer, _Unpickled):
             32
         """
         if self._seed is None:
-            raise ValueError("it has no seed: an expanded key does not reveal its seed")
+            raise ValueError(_library.text(NO_SEED))
         return self._seed
 
     def private_bytes(self, encoding: Encoding, format: PrivateFormat, encryption_algorithm: NoEncryption) -> bytes:

@@ -12,8 +12,8 @@ from ._interface import CALLS, NUMBERS, VERSION, VERSION_TEXT
 # Bytes are read, the others written.
 Array = Union[bytes, "ctypes.Array[ctypes.c_char]"]
 
-DONE, NO, KEY_RANGE = 0, 1, NUMBERS["MLDSA_KEY_RANGE"]
-OTHER_SET, NO_SEED = NUMBERS["MLDSA_OTHER_SET"], NUMBERS["MLDSA_NO_SEED"]
+DONE, NO, KEY_RANGE, OTHER_SET, INCONSISTENT, NO_SEED = (
+    NUMBERS[f"MLDSA_{it}"] for it in ("DONE", "NO", "KEY_RANGE", "OTHER_SET", "INCONSISTENT", "NO_SEED"))
 # Every call of Python itself takes as much stack.
 _SMALL = 4096
 

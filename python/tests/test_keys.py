@@ -121,11 +121,12 @@ class Signatures(unittest.TestCase):
 
     def test_answers_are_never_a_yes(self):
         """A status that the library does not give is no acceptance and no signature."""
-        for status, text in ((13, "ML-DSA.Sign: too many attempts"), (15, "sampling limit reached"),
-                             (2, "an array has the wrong length")):
+        for status, text in ((10, "ML-DSA.Sign: too many attempts"), (12, "sampling limit reached"),
+                             (11, "the private key is damaged: s1 or s2 is out of range"),
+                             (3, "an array has the wrong length"), (1, "no result of this library")):
             with mock.patch.dict(KEY._set.calls, sign=lambda *_, status=status: status):
                 self.assertRaisesRegex(SigningError, text, KEY.sign, b"m")
-        for status in (2, 3, 14, 15, 17, 256, 1 << 31):
+        for status in (1, 3, 11, 12, 14, 256, 1 << 31):
             with mock.patch.dict(PUB._set.calls, verify=lambda *_, status=status: status):
                 self.assertRaises(RuntimeError, PUB.verify, SIGNATURE, b"m")
 

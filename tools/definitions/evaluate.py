@@ -10,7 +10,7 @@ import functools
 import hashlib
 import re
 
-from specs import files
+from specs import TOP, files
 
 TOKEN = re.compile(
     r'\s*(?:(?P<text>"[^"]*")|(?P<number>0x[0-9A-Fa-f]+|\d+)|(?P<name>[^\W\d][\w\']*)|(?P<field>(?<=\S)\.(?=\w))'
@@ -429,9 +429,8 @@ CONSTRUCTORS = {"Some": 1, "Ok": 1, "Err": 1, "None": 0}
 # Arguments of definitions that are computed when they are asked for, since where they are not, they need not have a
 # value that computes.
 LATER = {"refused_or": {1}}
-FAULTS = ("KeyGenRng", "SignCtx", "SignRng", "HashCtx", "OidEmpty", "OidNotDer", "DigestTooLong", "DigestLength",
-          "HashRng", "InternalRng", "TooManyAttempts", "KeyRange", "SamplingLimit")
-CONSTRUCTORS.update({name: 0 for name in FAULTS})
+FAULTS = (TOP / "crates/fips204_base/specs/Faults.antt").read_text(encoding="utf-8")
+CONSTRUCTORS.update({name: 0 for name in re.findall(r"^words (\w+) =", FAULTS, re.M)})
 
 
 # ---- From definitions to functions

@@ -1,9 +1,7 @@
 -- What a result over bytes was, by its status; and what calls return for keys that belong together.
-use Rattle.std.proofs.Common.{◌≡◌, ◌≢◌, ◌≤◌, ℕ, Bool, true, false, List, length, Result, Ok, Err, refl, ap, ◌∙◌, arith, subst, inl, inr}
+use Rattle.std.proofs.Common.{◌≡◌, ◌≢◌, ◌≤◌, ℕ, Bool, true, false, List, length, Result, Ok, Err, refl, sym, ap, ◌∙◌, arith, subst, inl, inr}
 use Rattle.std.proofs.lemmas.Bool.Decides.{eqb_tells}
 use Rattle.std.specs.Prelude.{⊤}
-use Rattle.fips204_base.specs.declared.fault.Fault.{Fault}
-use Rattle.fips204_base.specs.declared.fault.Fault.TheVariants.{KeyGenRng, SignCtx, SignRng, HashCtx, OidEmpty, OidNotDer, DigestTooLong, DigestLength, HashRng, InternalRng, TooManyAttempts, KeyRange, SamplingLimit}
 use Rattle.fips204.specs.Framing.{Input}
 use Rattle.fips204.specs.ParameterSets.{ParameterSet, IsSet}
 use Rattle.fips204_shake.specs.Bytes as bytes
@@ -12,25 +10,10 @@ use Rattle.fips204_shake.specs.declared.bytes.refusal.Refusal.{Refusal}
 use Rattle.fips204_shake.specs.declared.bytes.refusal.Refusal.TheVariants.{Length, Library, NotPrepared}
 use Rattle.fips204_shake.specs.Fronts.{shake256_front, shake128_front, length-shake256_front}
 use Rattle.mldsa_c.specs.Calls.{Done, Told, IfSized, SignAnswers, VerifyAnswers, ArePair}
-use Rattle.mldsa_c.specs.Statuses.{status_of, done_status, answer_status}
+use Rattle.mldsa_c.specs.Statuses.{done_status, answer_status}
+use Rattle.mldsa_c.proofs.OfFaults.{not_done, not_one}
 
--- no fault has the status of success
-pub not_done : (fault : Fault) → ¬ (0 ≡ status_of fault)
-not_done KeyGenRng = λ e. absurd cc
-not_done SignCtx = λ e. absurd cc
-not_done SignRng = λ e. absurd cc
-not_done HashCtx = λ e. absurd cc
-not_done OidEmpty = λ e. absurd cc
-not_done OidNotDer = λ e. absurd cc
-not_done DigestTooLong = λ e. absurd cc
-not_done DigestLength = λ e. absurd cc
-not_done HashRng = λ e. absurd cc
-not_done InternalRng = λ e. absurd cc
-not_done TooManyAttempts = λ e. absurd cc
-not_done KeyRange = λ e. absurd cc
-not_done SamplingLimit = λ e. absurd cc
-
--- nor has an error
+-- no error has the status of success
 done : (answer : Result ⊤ Refusal) → 0 ≡ done_status answer → answer ≡ Ok tt
 done (Ok tt) e = refl
 done (Err (Length which)) e = absurd cc
@@ -48,6 +31,14 @@ yes (Ok false) e = absurd cc
 yes (Err (Length which)) e = absurd cc
 yes (Err (Library fault)) e = absurd (not_done fault e)
 yes (Err NotPrepared) e = absurd cc
+
+-- no question has the status 1
+pub told_not_one : (says : Result Bool Refusal → Type 0) (status : ℕ) → Told says status → status ≢ 1
+told_not_one says status (Ok true, answered, is) = λ one. absurd cc
+told_not_one says status (Ok false, answered, is) = λ one. absurd cc
+told_not_one says status (Err (Length which), answered, is) = λ one. absurd cc
+told_not_one says status (Err (Library fault), answered, is) = λ one. absurd (not_one fault (sym one ∙ is))
+told_not_one says status (Err NotPrepared, answered, is) = λ one. absurd cc
 
 -- what a question whose status is yes returns over bytes
 pub said : (says : Result Bool Refusal → Type 0) → Told says 0 → says (Ok true)

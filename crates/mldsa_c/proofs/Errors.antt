@@ -14,8 +14,9 @@ use Rattle.shake.specs.State.{CanBeSaved, saved_count}
 use Rattle.mldsa_c.specs.Calls.{SignAnswers}
 use Rattle.mldsa_c.specs.Pieces.{Keeps, Begins, IfState}
 use Rattle.mldsa_c.specs.Prepared.{SignPreparedAnswers}
-use Rattle.mldsa_c.specs.Statuses.{status_of}
-use Rattle.mldsa_c.proofs.ByStatus.{either, failed, not_done}
+use Rattle.mldsa_c.specs.Numbers.{status_of}
+use Rattle.mldsa_c.proofs.OfFaults.{not_done}
+use Rattle.mldsa_c.proofs.ByStatus.{either, failed}
 
 module _ (p : ParameterSet) (law : ErrorsLeave p shake256_front shake128_front) (key : List ℕ) (input : Input) (random old new : List ℕ) (status : ℕ) (differ : status ≢ 0) where
   pub signature_left : SignAnswers p key input random old new status → new ≡ old
@@ -47,16 +48,16 @@ can_be state = elim (cases_lt 0 (saved_count 136 state)) [
 pub state_left : (state old new : List ℕ) (status : ℕ) (P : Type 0) → status ≢ 0 → IfState state (P × (status ≡ 0)) (Keeps old new status) → new ≡ old
 state_left state old new status P differ = either 337 state of (λ (same, _). same)
   where
-    of : ((CanBeSaved 136 state → P × (status ≡ 0)) × (¬ (CanBeSaved 136 state) → Keeps old new status 16)) → new ≡ old
+    of : ((CanBeSaved 136 state → P × (status ≡ 0)) × (¬ (CanBeSaved 136 state) → Keeps old new status 13)) → new ≡ old
     of both = elim (can_be state) [
       | inl can ↦ absurd (differ (both.0 can).1)
       | inr never ↦ (both.1 never).0
     ]
 
 pub digest_told : (fault : Option Fault) (status : ℕ) → MatchOption fault (status ≡ 0) (λ why. status ≡ status_of why)
-    → ((status ≡ 0) ↔ (fault ≡ None)) × (fault ≡ Some DigestLength → status ≡ 10)
+    → ((status ≡ 0) ↔ (fault ≡ None)) × (fault ≡ Some DigestLength → status ≡ 9)
 digest_told None status is = ((λ _. refl, λ _. is), λ e. absurd cc)
 digest_told (Some why) status is = ((λ zero. absurd (not_done why (sym zero ∙ is)), λ e. absurd cc), λ e. is ∙ same why e)
   where
-    same : (why : Fault) → Path (Option Fault) (Some why) (Some DigestLength) → status_of why ≡ 10
+    same : (why : Fault) → Path (Option Fault) (Some why) (Some DigestLength) → status_of why ≡ 9
     same why e = cc

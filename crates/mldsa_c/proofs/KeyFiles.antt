@@ -12,7 +12,7 @@ use Rattle.mldsa_c.proofs.ByStatus.{sized}
 -- what holds of a key that is read, or of a status
 reads_as : (read : Result (SetName × FileParts) DerFault) (set : SetName) (P Q : FileParts → Type 0) (S T : ℕ → Type 0)
     → ((parts : FileParts) → P parts → Q parts) → ((why : ℕ) → S why → T why) → Reads read set P S → Reads read set Q T
-reads_as (Ok x) set P Q S T uses refuses reads = (λ same. uses x.1 (reads.0 same), λ other. refuses 24 (reads.1 other))
+reads_as (Ok x) set P Q S T uses refuses reads = (λ same. uses x.1 (reads.0 same), λ other. refuses 21 (reads.1 other))
 reads_as (Err fault) set P Q S T uses refuses reads = refuses _ reads
 
 -- the same of the file that the bytes are

@@ -67,8 +67,8 @@ module _ (p : ParameterSet) (law : mus.MuStandsForInput p shake256_front shake12
 pub zeros : ¬ (CanBeSaved 136 (replicate 337 0))
 zeros can = let none = get_or-replicate {A = ℕ} 337 336 0 0 (search rules) in omega (arith, none, can.0)
 
-pub unused : (piece new : List ℕ) (status : ℕ) → Updates (replicate 337 0) new piece status → Keeps (replicate 337 0) new status 16
+pub unused : (piece new : List ℕ) (status : ℕ) → Updates (replicate 337 0) new piece status → Keeps (replicate 337 0) new status 13
 unused piece new status updates = (updates.0 (length-replicate {A = ℕ} 337 0)).1 zeros
 
-pub unfinished : (mu mu' : List ℕ) (status : ℕ) → length mu ≡ 64 → Finishes (replicate 337 0) mu mu' status → Keeps mu mu' status 16
+pub unfinished : (mu mu' : List ℕ) (status : ℕ) → length mu ≡ 64 → Finishes (replicate 337 0) mu mu' status → Keeps mu mu' status 13
 unfinished mu mu' status long finishes = ((finishes.0 long).0 (length-replicate {A = ℕ} 337 0)).1 zeros

@@ -5,7 +5,8 @@ use Rattle.fips204.specs.ParameterSets.{ParameterSet}
 use Rattle.fips204_shake.specs.Bytes as bytes
 use Rattle.fips204_shake.specs.declared.bytes.refusal.Refusal.{Refusal}
 use Rattle.fips204_shake.specs.Fronts.{shake256_front, shake128_front}
-use Rattle.mldsa_c.specs.Statuses.{status_of, done_status, answer_status, accepted}
+use Rattle.mldsa_c.specs.Numbers.{status_of}
+use Rattle.mldsa_c.specs.Statuses.{done_status, answer_status, accepted}
 
 -- the status is that of what a call over bytes returns: of one that writes, and of a question
 abbrev pub Done : (Result ⊤ Refusal → Type 0) → ℕ → Type 0
@@ -22,16 +23,16 @@ IfSized wanted bytes fits refuses = ((length bytes ≡ wanted) → fits) × ((le
 abbrev pub KeygenAnswers : ParameterSet → List ℕ → List ℕ → List ℕ → List ℕ → List ℕ → ℕ → Type 0
 KeygenAnswers p seed public public' private private' status =
     IfSized 32 seed (Done (bytes.Generates p shake256_front shake128_front seed public public' private private') status)
-    ((public' ≡ public) × (private' ≡ private) × (status ≡ 2))
+    ((public' ≡ public) × (private' ≡ private) × (status ≡ 3))
 
 -- sign and hash_sign, with 32 random bytes
 abbrev pub SignAnswers : ParameterSet → List ℕ → Input → List ℕ → List ℕ → List ℕ → ℕ → Type 0
 SignAnswers p key input random old new status =
-    IfSized 32 random (Done (bytes.Signs p shake256_front shake128_front key random input old new) status) ((new ≡ old) × (status ≡ 2))
+    IfSized 32 random (Done (bytes.Signs p shake256_front shake128_front key random input old new) status) ((new ≡ old) × (status ≡ 3))
 
 -- sign_mu, with 64 bytes of mu
 abbrev pub SignMuAnswers : ParameterSet → List ℕ → List ℕ → List ℕ → List ℕ → List ℕ → ℕ → Type 0
-SignMuAnswers p key mu random old new status = IfSized 64 mu (SignAnswers p key (represented mu) random old new status) ((new ≡ old) × (status ≡ 2))
+SignMuAnswers p key mu random old new status = IfSized 64 mu (SignAnswers p key (represented mu) random old new status) ((new ≡ old) × (status ≡ 3))
 
 -- verify and hash_verify
 abbrev pub VerifyAnswers : ParameterSet → List ℕ → Input → List ℕ → ℕ → Type 0
@@ -43,7 +44,7 @@ AcceptsAnswers p key input signature answer = (status : ℕ) × VerifyAnswers p 
 
 -- verify_mu, with 64 bytes of mu
 abbrev pub VerifyMuAnswers : ParameterSet → List ℕ → List ℕ → List ℕ → ℕ → Type 0
-VerifyMuAnswers p key mu signature status = IfSized 64 mu (VerifyAnswers p key (represented mu) signature status) (status ≡ 2)
+VerifyMuAnswers p key mu signature status = IfSized 64 mu (VerifyAnswers p key (represented mu) signature status) (status ≡ 3)
 
 -- public_key, check_private_key, is_whole and is_pair
 abbrev pub PublicKeyAnswers : ParameterSet → List ℕ → List ℕ → List ℕ → ℕ → Type 0

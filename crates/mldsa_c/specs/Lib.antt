@@ -1,4 +1,5 @@
 pub mod Calls
+pub mod Numbers
 pub mod Statuses
 pub mod Texts
 pub mod Pieces

@@ -15,12 +15,12 @@ abbrev pub Begins : ℕ → List ℕ → List ℕ → List ℕ → List ℕ → 
 Begins wanted key tr context old new status =
     IfSized 337 old (IfSized wanted key
     (((length context ≤ 255) → HashesSaved new tr context [] × (status ≡ 0)) × ((255 < length context) → Keeps old new status 4))
-    (Keeps old new status 2)) (Keeps old new status 2)
+    (Keeps old new status 3)) (Keeps old new status 3)
 
--- a state whose last byte is from 1 to 136 is used; any other, as zeros, gives 16
+-- a state whose last byte is from 1 to 136 is used; any other, as zeros, gives 13
 abbrev pub IfState : List ℕ → Type 0 → (ℕ → Type 0) → Type 0
 IfState state uses refuses =
-    IfSized 337 state ((CanBeSaved 136 state → uses) × (¬ (CanBeSaved 136 state) → refuses 16)) (refuses 2)
+    IfSized 337 state ((CanBeSaved 136 state → uses) × (¬ (CanBeSaved 136 state) → refuses 13)) (refuses 3)
 
 -- mu_update: whatever part of a message the state had taken, it has taken the piece as well
 abbrev pub Updates : List ℕ → List ℕ → List ℕ → ℕ → Type 0
@@ -31,7 +31,7 @@ Updates old new piece status =
 abbrev pub Finishes : List ℕ → List ℕ → List ℕ → ℕ → Type 0
 Finishes state mu mu' status =
     IfSized 64 mu (IfState state (((tr context m : List ℕ) → HashesSaved state tr context m → mu' ≡ representative shake256_front tr (plain m context)) × (status ≡ 0))
-    (Keeps mu mu' status)) (Keeps mu mu' status 2)
+    (Keeps mu mu' status)) (Keeps mu mu' status 3)
 
 -- mu_update of each of these pieces, one after another, makes the second state of the first one
 abbrev pub Takes : List ℕ → List (List ℕ) → List ℕ → Type 0

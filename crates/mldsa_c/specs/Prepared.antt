@@ -19,13 +19,13 @@ VerifyPreparedAnswers p key input signature status = Told (bytes.JudgesPrepared 
 
 -- verify_mu_prepared, with 64 bytes of mu
 abbrev pub VerifyMuPreparedAnswers : ParameterSet → List ℕ → List ℕ → List ℕ → ℕ → Type 0
-VerifyMuPreparedAnswers p key mu signature status = IfSized 64 mu (VerifyPreparedAnswers p key (represented mu) signature status) (status ≡ 2)
+VerifyMuPreparedAnswers p key mu signature status = IfSized 64 mu (VerifyPreparedAnswers p key (represented mu) signature status) (status ≡ 3)
 
 -- sign_prepared and hash_sign_prepared, with 32 random bytes
 abbrev pub SignPreparedAnswers : ParameterSet → List ℕ → Input → List ℕ → List ℕ → List ℕ → ℕ → Type 0
 SignPreparedAnswers p key input random old new status =
-    IfSized 32 random (Done (bytes.SignsPrepared p shake256_front key random input old new) status) ((new ≡ old) × (status ≡ 2))
+    IfSized 32 random (Done (bytes.SignsPrepared p shake256_front key random input old new) status) ((new ≡ old) × (status ≡ 3))
 
 -- sign_mu_prepared, with 64 bytes of mu
 abbrev pub SignMuPreparedAnswers : ParameterSet → List ℕ → List ℕ → List ℕ → List ℕ → List ℕ → ℕ → Type 0
-SignMuPreparedAnswers p key mu random old new status = IfSized 64 mu (SignPreparedAnswers p key (represented mu) random old new status) ((new ≡ old) × (status ≡ 2))
+SignMuPreparedAnswers p key mu random old new status = IfSized 64 mu (SignPreparedAnswers p key (represented mu) random old new status) ((new ≡ old) × (status ≡ 3))

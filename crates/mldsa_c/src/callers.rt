@@ -81,13 +81,14 @@ pub fn message_in_pieces()
     ensures context { (wanted : ℕ) (key tr context old new : List ℕ) (status : ℕ) → Begins wanted key tr context old new status → length old ≡ 337
         → length key ≡ wanted → 255 < length context → (new ≡ old) × (status ≡ 4) }
     ensures zeros { (tr context m : List ℕ) → ¬ (HashesSaved (replicate 337 0) tr context m) }
-    ensures forgotten { (piece new mu mu' : List ℕ) (status : ℕ) → (Updates (replicate 337 0) new piece status → (new ≡ replicate 337 0) × (status ≡ 16))
-        × (length mu ≡ 64 → Finishes (replicate 337 0) mu mu' status → (mu' ≡ mu) × (status ≡ 16)) }
+    ensures forgotten { (piece new mu mu' : List ℕ) (status : ℕ) → (Updates (replicate 337 0) new piece status → (new ≡ replicate 337 0) × (status ≡ 13))
+        × (length mu ≡ 64 → Finishes (replicate 337 0) mu mu' status → (mu' ≡ mu) × (status ≡ 13)) }
 {
     laws::mu_stands_for_input();
 }
 
-/// An array that a call would write is as it was after every status but 0; and what is returned of a digest that can't be signed.
+/// An array that a call would write is as it was after every status but 0; what is returned of a digest that can't be
+/// signed; and no question returns 1.
 pub fn arrays_after_errors()
     ensures pairs { (p : ParameterSet) (seed v pk s sk : List ℕ) (status : ℕ) → status ≢ 0 → KeygenAnswers p seed v pk s sk status → (pk ≡ v) × (sk ≡ s) }
     ensures signatures { (p : ParameterSet) (key : List ℕ) (input : Input) (random old new : List ℕ) (status : ℕ) → status ≢ 0
@@ -99,7 +100,12 @@ pub fn arrays_after_errors()
     ensures states { (wanted : ℕ) (key tr context piece old new : List ℕ) (status : ℕ) → status ≢ 0
         → Begins wanted key tr context old new status ⊎ (Updates old new piece status ⊎ Finishes piece old new status) → new ≡ old }
     ensures digests { (digest oid : List ℕ) (status : ℕ) → CheckPreHashAnswers digest oid status
-        → ((status ≡ 0) ↔ (pre_hash_fault digest oid ≡ None)) × (pre_hash_fault digest oid ≡ Some DigestLength → status ≡ 10) }
+        → ((status ≡ 0) ↔ (pre_hash_fault digest oid ≡ None)) × (pre_hash_fault digest oid ≡ Some DigestLength → status ≡ 9) }
+    ensures judged { (p : ParameterSet) (key : List ℕ) (input : Input) (signature : List ℕ) (status : ℕ)
+        → VerifyAnswers p key input signature status ⊎ VerifyPreparedAnswers p key input signature status → status ≢ 1 }
+    ensures judged_mu { (p : ParameterSet) (key mu signature : List ℕ) (status : ℕ)
+        → VerifyMuAnswers p key mu signature status ⊎ VerifyMuPreparedAnswers p key mu signature status → status ≢ 1 }
+    ensures asked { (p : ParameterSet) (key : List ℕ) (status : ℕ) → IsWholeAnswers p key status ⊎ IsPairAnswers p key status → status ≢ 1 }
 {
     laws::errors_leave_arrays();
 }

@@ -6,42 +6,18 @@ ghost use Rattle.fips204.specs.Sets.{named_set};
 ghost use Rattle.fips204_shake.specs.Keys.{HasPrivateSizes, file_parts, private_length};
 ghost use Rattle.fips204_shake.specs.Reading.{private_at};
 ghost use Rattle.mldsa_c.specs.Pieces.{Keeps};
-ghost use Rattle.mldsa_c.specs.Der.{status_of_der, IfGenerated, IfPair, IfSame, IfConsistent, IfSeed, IsKey, Has, Reads, PublicKeyFromDer, PrivateKeyFromDer, SeedFromDer, PublicKeyToDer, SeedToDer, PrivateKeyToDer, BothToDer};
+ghost use Rattle.mldsa_c.specs.Der.{IfGenerated, IfPair, IfSame, IfConsistent, IfSeed, IsKey, Has, Reads, PublicKeyFromDer, PrivateKeyFromDer, SeedFromDer, PublicKeyToDer, SeedToDer, PrivateKeyToDer, BothToDer};
 
-use crate::statuses::{DONE, WRONG_LENGTH, status_of_refusal};
+use crate::numbers::{DONE, INCONSISTENT, NO_SEED, OTHER_SET, WRONG_LENGTH, status_of_der};
+use crate::statuses::status_of_refusal;
 use fips204_shake::bytes::array_of;
-use fips204_shake::der::{
-    DerFault, PrivateKey, read_private, read_public, write_private, write_public,
-};
+use fips204_shake::der::{PrivateKey, read_private, read_public, write_private, write_public};
 use fips204_shake::{AnySet, Fault, Refusal, SetName};
-
-/// The key is one of another parameter set.
-const OTHER_SET: u32 = 24;
-
-/// The parts of a private key do not belong together.
-const INCONSISTENT: u32 = 25;
-
-/// A private key has no seed.
-const NO_SEED: u32 = 26;
 
 /// The lengths of the longest keys.
 const PUBLIC_KEY: usize = 2592;
 
 const PRIVATE_KEY: usize = 4896;
-
-/// The status of a fault of DER.
-fn status_of_der(fault: DerFault) -> u32
-    ensures { result ≡ status_of_der fault }
-{
-    match fault {
-        DerFault::Short => 18,
-        DerFault::Behind => 19,
-        DerFault::Element => 20,
-        DerFault::Version => 21,
-        DerFault::OtherAlgorithm => 22,
-        DerFault::KeyLength => 23,
-    }
-}
 
 /// Writes the private key of a seed; an error is a status.
 fn generate(set: SetName, seed: &[u8; 32], private_key: &mut [u8]) -> Result<(), u32>
@@ -72,7 +48,7 @@ fn check_pair(set: SetName, private_key: &[u8]) -> Result<(), u32>
 #[tactic(auto, using(fips204_shake::proofs::KeyFiles::private_small))]
 fn check_both(set: SetName, seed: &[u8; 32], private_key: &[u8]) -> Result<(), u32>
     requires { length private_key.now ≡ private_length set }
-    ensures { IfGenerated (named_set set) seed.now (λ key. IfSame key private_key.now (result ≡ Ok tt) (result ≡ Err 25)) (λ why. result ≡ Err why) }
+    ensures { IfGenerated (named_set set) seed.now (λ key. IfSame key private_key.now (result ≡ Ok tt) (result ≡ Err 22)) (λ why. result ≡ Err why) }
 {
     let mut made = [0; PRIVATE_KEY];
     let made = &mut made[..private_key.len()];

@@ -10,8 +10,9 @@ ghost use Rattle.fips204_shake.specs.Mu.{tr_of_private, tr_of_public};
 ghost use Rattle.fips204_shake.specs.Fronts.{shake256_front};
 ghost use Rattle.fips204.specs.ParameterSets.{public_key_length, private_key_length};
 
+use crate::numbers::WRONG_LENGTH;
 use crate::pieces;
-use crate::statuses::{WRONG_LENGTH, accepted, checked_array, status, verdict_status};
+use crate::statuses::{accepted, checked_array, status, verdict_status};
 use fips204_shake::{Input, MlDsa65, SetName};
 
 /// Makes the key pair of a seed of 32 bytes.

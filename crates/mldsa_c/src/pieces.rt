@@ -7,7 +7,8 @@ ghost use Rattle.fips204_shake.specs.Mu.{tr_of_private, tr_of_public};
 ghost use Rattle.fips204_shake.specs.Fronts.{shake256_front};
 ghost use Rattle.mldsa_c.specs.Pieces.{Begins, Updates, Finishes};
 
-use crate::statuses::{BROKEN_STATE, DONE, WRONG_LENGTH, status_of_refusal};
+use crate::numbers::{BROKEN_STATE, DONE, WRONG_LENGTH};
+use crate::statuses::status_of_refusal;
 use fips204_shake::SetName;
 use fips204_shake::pieces::{MessageHasher, SAVED_LEN};
 

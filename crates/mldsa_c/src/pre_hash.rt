@@ -4,7 +4,7 @@
 ghost use Rattle.std.specs.Prelude.{◌≡◌};
 ghost use Rattle.mldsa_c.specs.Calls.{CheckPreHashAnswers};
 
-use crate::statuses::{DONE, status_of};
+use crate::numbers::{DONE, status_of};
 use fips204::check_pre_hash;
 
 /// Tells whether a digest and the object identifier of its hash function can be signed.

@@ -5,7 +5,8 @@ ghost use Rattle.fips204.specs.Framing.{plain, hashed};
 ghost use Rattle.fips204.specs.ParameterSets.{set_44};
 ghost use Rattle.mldsa_c.specs.Prepared.{PreparePublicKeyAnswers, VerifyPreparedAnswers, VerifyMuPreparedAnswers, PreparePrivateKeyAnswers, SignPreparedAnswers, SignMuPreparedAnswers};
 
-use crate::statuses::{WRONG_LENGTH, checked_array, status, verdict_status};
+use crate::numbers::WRONG_LENGTH;
+use crate::statuses::{checked_array, status, verdict_status};
 use fips204_shake::{Input, MlDsa44};
 
 /// Prepares a public key for many verifications.

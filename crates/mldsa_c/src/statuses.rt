@@ -1,25 +1,11 @@
-//! The numbers that the exports return.
+//! The statuses that the exports return.
 #![tactic(auto)]
 
 ghost use Rattle.std.specs.Prelude.{◌≡◌};
-ghost use Rattle.mldsa_c.specs.Statuses.{status_of, refusal_status, done_status, answer_status, accepted};
+ghost use Rattle.mldsa_c.specs.Statuses.{refusal_status, done_status, answer_status, accepted};
 
-use fips204_shake::bytes::{Fault, Refusal};
-
-/// Done; of a question: yes.
-pub(crate) const DONE: u32 = 0;
-
-/// Of a question: no.
-const NO: u32 = 1;
-
-/// An array has the wrong length.
-pub(crate) const WRONG_LENGTH: u32 = 2;
-
-/// No state has these bytes.
-pub(crate) const BROKEN_STATE: u32 = 16;
-
-/// No prepared key has these bytes.
-const NOT_PREPARED: u32 = 17;
+use crate::numbers::{DONE, NO, NOT_PREPARED, WRONG_LENGTH, status_of};
+use fips204_shake::bytes::Refusal;
 
 /// A slice as an array of this length; the function around it returns `WRONG_LENGTH` for a slice of another.
 macro_rules! checked_array {
@@ -32,27 +18,6 @@ macro_rules! checked_array {
 }
 
 pub(crate) use checked_array;
-
-/// The status of a fault.
-pub(crate) fn status_of(fault: Fault) -> u32
-    ensures { result ≡ status_of fault }
-{
-    match fault {
-        Fault::KeyGenRng => 3,
-        Fault::SignCtx => 4,
-        Fault::SignRng => 5,
-        Fault::HashCtx => 6,
-        Fault::OidEmpty => 7,
-        Fault::OidNotDer => 8,
-        Fault::DigestTooLong => 9,
-        Fault::DigestLength => 10,
-        Fault::HashRng => 11,
-        Fault::InternalRng => 12,
-        Fault::TooManyAttempts => 13,
-        Fault::KeyRange => 14,
-        Fault::SamplingLimit => 15,
-    }
-}
 
 /// The status of an error.
 pub(crate) fn status_of_refusal(refusal: Refusal) -> u32

@@ -30,7 +30,7 @@ pub enum FileFault {
     #[error("its text is damaged")]
     Text,
     /// Its DER is no key's.
-    #[error("{}", sentence(*.0))]
+    #[error("{}", .0.as_str())]
     Der(DerFault),
     /// A memory allocation failed.
     #[error("out of memory")]
@@ -102,17 +102,5 @@ impl From<AllocError> for CommandFault {
 
     fn from(_: AllocError) -> CommandFault {
         CommandFault::Memory
-    }
-}
-
-/// The sentence about a file with this fault in its DER.
-fn sentence(fault: DerFault) -> &'static str {
-    match fault {
-        DerFault::Short => "its DER is cut short",
-        DerFault::Behind => "more follows behind the end of its DER",
-        DerFault::Element => "its DER is damaged",
-        DerFault::Version => "it has a private key of another version",
-        DerFault::OtherAlgorithm => "its key is not one of ML-DSA-44, ML-DSA-65 or ML-DSA-87",
-        DerFault::KeyLength => "its key has a wrong length",
     }
 }

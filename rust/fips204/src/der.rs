@@ -2,41 +2,19 @@
 #![allow(dead_code)] // no set may be chosen
 
 use crate::Error;
-use crate::error::{WIPED, WRONG_LENGTH};
-use crate::proved::mldsa_c::der;
+use crate::error::WIPED;
+use crate::proved::mldsa_c::{der, texts::text_of};
 use crate::set::{Named, PrivateKey, PublicKey, Set};
 use crate::wiped::{Wiped, held};
 
 /// How many bytes the DER of a seed has, at every set.
 const SEED_DER_LEN: usize = 54;
 
-/// The texts of the statuses from 18 on, which are those that reading DER alone returns.
-const TEXTS: [&str; 9] = [
-    "its DER is cut short",
-    "more follows behind the end of its DER",
-    "its DER is damaged",
-    "it has a private key of another version",
-    "its key is not one of ML-DSA-44, ML-DSA-65 or ML-DSA-87",
-    "its key has a wrong length",
-    "its key is one of another parameter set",
-    "the private key is not consistent",
-    "it has no seed: an expanded key does not reveal its seed",
-];
-
-/// The text of a status that is no success.
-const fn text(status: u32) -> &'static str {
-    match status {
-        2 => WRONG_LENGTH,
-        18.. if status < 18 + TEXTS.len() as u32 => TEXTS[status as usize - 18],
-        _ => "sampling limit reached",
-    }
-}
-
 /// The value if a call is done, and otherwise the text of its status.
 fn answer<T>(status: u32, value: T) -> Result<T, Error> {
     match status {
         0 => Ok(value),
-        status => Err(text(status).into()),
+        status => Err(text_of(status).into()),
     }
 }
 
@@ -225,22 +203,6 @@ where
     /// ```
     pub fn write_both_der(seed: &[u8; 32], der: &mut [u8]) -> Result<(), Error> {
         answer(der::both_to_der(Self::SET, seed, der), ())
-    }
-}
-
-#[cfg(test)]
-mod tests {
-    use crate::proved::mldsa_c::texts::mldsa_text_of;
-
-    /// The texts are those that C has.
-    #[test]
-    fn texts() {
-        for status in [2, 15, 18, 19, 20, 21, 22, 23, 24, 25, 26] {
-            let mut of_c = [0; 64];
-            assert_eq!(mldsa_text_of(status, &mut of_c), 0);
-            let text = super::text(status).as_bytes();
-            assert_eq!((&of_c[..text.len()], of_c[text.len()]), (text, 0));
-        }
     }
 }
 

@@ -1,20 +1,19 @@
 //! Why a call returns an error.
 
 use crate::proved::fips204_shake::bytes::Refusal;
+use crate::proved::mldsa_c::numbers::{self, TEXTS};
+use crate::proved::mldsa_c::statuses::status_of_refusal;
+use crate::proved::mldsa_c::texts::text_of;
 
 /// The error of each call with a key or a hasher that `zeroize` wiped.
 pub(crate) const WIPED: &str = "the key or the hasher was wiped";
 
 /// The error of an array that has another length than the set wants.
-pub(crate) const WRONG_LENGTH: &str = "an array has the wrong length";
+pub(crate) const WRONG_LENGTH: &str = TEXTS[numbers::WRONG_LENGTH as usize];
 
-/// The text of a refusal.
+/// The text of a refusal, which is the one that C has.
 fn text(refusal: Refusal) -> &'static str {
-    match refusal {
-        Refusal::Length(_) => WRONG_LENGTH,
-        Refusal::Library(fault) => fault.as_str(),
-        Refusal::NotPrepared => "no call has written this prepared key",
-    }
+    text_of(status_of_refusal(refusal))
 }
 
 /// The same, of a call with what a type of this crate holds. Its length is right, unless it was wiped: then it gives no bytes.
@@ -39,35 +38,6 @@ impl core::fmt::Display for Refusal {
 }
 
 impl core::error::Error for Refusal {}
-
-#[cfg(test)]
-mod tests {
-    use crate::proved::fips204_shake::bytes::{Buffer, Fault, Refusal};
-    use crate::proved::mldsa_c::{statuses::status_of_refusal, texts::mldsa_text_of};
-
-    /// The texts are those that C has.
-    #[test]
-    fn texts() {
-        let faults = [
-            Fault::SignCtx,
-            Fault::HashCtx,
-            Fault::OidEmpty,
-            Fault::OidNotDer,
-            Fault::DigestTooLong,
-            Fault::DigestLength,
-            Fault::TooManyAttempts,
-            Fault::KeyRange,
-            Fault::SamplingLimit,
-        ];
-        let others = [Refusal::Length(Buffer::Signature), Refusal::NotPrepared];
-        for refusal in faults.map(Refusal::from).into_iter().chain(others) {
-            let mut of_c = [0; 64];
-            assert_eq!(mldsa_text_of(status_of_refusal(refusal), &mut of_c), 0);
-            let text = super::text(refusal).as_bytes();
-            assert_eq!((&of_c[..text.len()], of_c[text.len()]), (text, 0));
-        }
-    }
-}
 
 /// The error of the calls that the crate fips204 does not have. Those that it has return its `&'static str`; `?` turns either into
 /// the other, and this one into a `Box<dyn Error>` and its like.

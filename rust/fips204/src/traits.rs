@@ -404,7 +404,7 @@ pub trait SerDes {
     /// assert!(PublicKey::try_from_bytes([0xFF; PK_LEN]).is_ok());
     /// assert_eq!(
     ///     PrivateKey::try_from_bytes([0xFF; SK_LEN]).err(),
-    ///     Some("Alg 25: s1 or s2 out of range")
+    ///     Some("the private key is damaged: s1 or s2 is out of range")
     /// );
     /// # }
     /// # Ok::<(), &'static str>(())

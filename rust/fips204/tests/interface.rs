@@ -244,7 +244,7 @@ macro_rules! interface {
             bytes[128] = 0xFF;
             assert_eq!(
                 PrivateKey::try_from_bytes(bytes).err(),
-                Some("Alg 25: s1 or s2 out of range")
+                Some("the private key is damaged: s1 or s2 is out of range")
             );
 
             // Nothing of a key or a message is shown.

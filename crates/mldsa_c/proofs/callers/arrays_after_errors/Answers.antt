@@ -3,7 +3,7 @@ use Rattle.fips204.specs.Framing.{represented, pre_hash_fault}
 use Rattle.fips204_shake.specs.Bytes as bytes
 use Rattle.fips204_shake.specs.Prepared as prepared
 use Rattle.fips204_shake.specs.Fronts.{shake256_front, shake128_front}
-use Rattle.mldsa_c.proofs.ByStatus.{either, failed}
+use Rattle.mldsa_c.proofs.ByStatus.{either, failed, told_not_one}
 use Rattle.mldsa_c.proofs.Errors.{signature_left, prepared_signature_left, begun_left, state_left, digest_told}
 use Rattle.mldsa_c.proofs.callers.arrays_after_errors.Goals as goal
 
@@ -43,3 +43,21 @@ returns-clause-states c = λ wanted key tr context piece old new status differ a
 
 pub returns-clause-digests : goal.returns-clause-digests
 returns-clause-digests c = λ digest oid status. digest_told (pre_hash_fault digest oid) status
+
+pub returns-clause-judged : goal.returns-clause-judged
+returns-clause-judged c = λ p key input signature status answers. elim answers [
+  | inl plain ↦ told_not_one (bytes.Judges p shake256_front shake128_front key input signature) status plain
+  | inr ready ↦ told_not_one (prepared.JudgesPrepared p shake256_front key input signature) status ready
+]
+
+pub returns-clause-judged_mu : goal.returns-clause-judged_mu
+returns-clause-judged_mu c = λ p key mu signature status answers. elim answers [
+  | inl plain ↦ either 64 mu (told_not_one (bytes.Judges p shake256_front shake128_front key (represented mu) signature) status) (λ three one. absurd cc) plain
+  | inr ready ↦ either 64 mu (told_not_one (prepared.JudgesPrepared p shake256_front key (represented mu) signature) status) (λ three one. absurd cc) ready
+]
+
+pub returns-clause-asked : goal.returns-clause-asked
+returns-clause-asked c = λ p key status answers. elim answers [
+  | inl whole ↦ told_not_one (bytes.ChecksWholeness p shake128_front key) status whole
+  | inr pair ↦ told_not_one (bytes.ChecksPair p shake256_front shake128_front key) status pair
+]

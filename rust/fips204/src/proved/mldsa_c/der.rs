@@ -1,38 +1,16 @@
 // Made by tools/erase of crates/mldsa_c/src/der.rt. Change that, not this.
 //! Keys in DER (RFC 9881): what the exports of each set do.
 
-use crate::proved::mldsa_c::statuses::{DONE, WRONG_LENGTH, status_of_refusal};
+use crate::proved::mldsa_c::numbers::{DONE, INCONSISTENT, NO_SEED, OTHER_SET, WRONG_LENGTH, status_of_der};
+use crate::proved::mldsa_c::statuses::status_of_refusal;
 use crate::proved::fips204_shake::bytes::array_of;
-use crate::proved::fips204_shake::der::{
-    DerFault, PrivateKey, read_private, read_public, write_private, write_public,
-};
+use crate::proved::fips204_shake::der::{PrivateKey, read_private, read_public, write_private, write_public};
 use crate::proved::fips204_shake::{AnySet, Fault, Refusal, SetName};
-
-/// The key is one of another parameter set.
-const OTHER_SET: u32 = 24;
-
-/// The parts of a private key do not belong together.
-const INCONSISTENT: u32 = 25;
-
-/// A private key has no seed.
-const NO_SEED: u32 = 26;
 
 /// The lengths of the longest keys.
 const PUBLIC_KEY: usize = 2592;
 
 const PRIVATE_KEY: usize = 4896;
-
-/// The status of a fault of DER.
-fn status_of_der(fault: DerFault) -> u32 {
-    match fault {
-        DerFault::Short => 18,
-        DerFault::Behind => 19,
-        DerFault::Element => 20,
-        DerFault::Version => 21,
-        DerFault::OtherAlgorithm => 22,
-        DerFault::KeyLength => 23,
-    }
-}
 
 /// Writes the private key of a seed; an error is a status.
 fn generate(set: SetName, seed: &[u8; 32], private_key: &mut [u8]) -> Result<(), u32> {

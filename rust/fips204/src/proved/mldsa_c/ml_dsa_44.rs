@@ -1,8 +1,9 @@
 // Made by tools/erase of crates/mldsa_c/src/ml_dsa_44.rt. Change that, not this.
 //! The exports of ML-DSA-44.
 
+use crate::proved::mldsa_c::numbers::WRONG_LENGTH;
 use crate::proved::mldsa_c::pieces;
-use crate::proved::mldsa_c::statuses::{WRONG_LENGTH, accepted, checked_array, status, verdict_status};
+use crate::proved::mldsa_c::statuses::{accepted, checked_array, status, verdict_status};
 use crate::proved::fips204_shake::{Input, MlDsa44, SetName};
 
 /// Makes the key pair of a seed of 32 bytes.

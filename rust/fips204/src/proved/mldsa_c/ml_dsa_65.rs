@@ -2,8 +2,9 @@
 // `tools/sets` made this file from that of 44: edit that one.
 //! The exports of ML-DSA-65.
 
+use crate::proved::mldsa_c::numbers::WRONG_LENGTH;
 use crate::proved::mldsa_c::pieces;
-use crate::proved::mldsa_c::statuses::{WRONG_LENGTH, accepted, checked_array, status, verdict_status};
+use crate::proved::mldsa_c::statuses::{accepted, checked_array, status, verdict_status};
 use crate::proved::fips204_shake::{Input, MlDsa65, SetName};
 
 /// Makes the key pair of a seed of 32 bytes.

@@ -1,7 +1,8 @@
 // Made by tools/erase of crates/mldsa_c/src/pieces.rt. Change that, not this.
 //! A message in pieces: a state in the caller's bytes, which any bytes may stand in.
 
-use crate::proved::mldsa_c::statuses::{BROKEN_STATE, DONE, WRONG_LENGTH, status_of_refusal};
+use crate::proved::mldsa_c::numbers::{BROKEN_STATE, DONE, WRONG_LENGTH};
+use crate::proved::mldsa_c::statuses::status_of_refusal;
 use crate::proved::fips204_shake::SetName;
 use crate::proved::fips204_shake::pieces::{MessageHasher, SAVED_LEN};
 

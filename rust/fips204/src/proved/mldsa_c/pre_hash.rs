@@ -1,7 +1,7 @@
 // Made by tools/erase of crates/mldsa_c/src/pre_hash.rt. Change that, not this.
 //! Exports that all sets share.
 
-use crate::proved::mldsa_c::statuses::{DONE, status_of};
+use crate::proved::mldsa_c::numbers::{DONE, status_of};
 use crate::proved::fips204::check_pre_hash;
 
 /// Tells whether a digest and the object identifier of its hash function can be signed.

@@ -1,7 +1,8 @@
 // Made by tools/erase of crates/mldsa_c/src/prepared_44.rt. Change that, not this.
 //! The exports of ML-DSA-44 with prepared keys.
 
-use crate::proved::mldsa_c::statuses::{WRONG_LENGTH, checked_array, status, verdict_status};
+use crate::proved::mldsa_c::numbers::WRONG_LENGTH;
+use crate::proved::mldsa_c::statuses::{checked_array, status, verdict_status};
 use crate::proved::fips204_shake::{Input, MlDsa44};
 
 /// Prepares a public key for many verifications.

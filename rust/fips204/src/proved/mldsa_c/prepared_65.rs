@@ -2,7 +2,8 @@
 // `tools/sets` made this file from that of 44: edit that one.
 //! The exports of ML-DSA-65 with prepared keys.
 
-use crate::proved::mldsa_c::statuses::{WRONG_LENGTH, checked_array, status, verdict_status};
+use crate::proved::mldsa_c::numbers::WRONG_LENGTH;
+use crate::proved::mldsa_c::statuses::{checked_array, status, verdict_status};
 use crate::proved::fips204_shake::{Input, MlDsa65};
 
 /// Prepares a public key for many verifications.

@@ -1,41 +1,7 @@
 // Made by tools/erase of crates/mldsa_c/src/texts.rt. Change that, not this.
 //! The texts of the numbers that the exports return.
 
-use crate::proved::mldsa_c::statuses::{DONE, WRONG_LENGTH};
-
-/// The text of a number that no call returns.
-const NO_STATUS: &str = "no result of this library";
-
-/// The text of each number from 0 on.
-const TEXTS: [&str; 27] = [
-    "no error, or the result yes",
-    "no",
-    "an array has the wrong length",
-    NO_STATUS,
-    "ML-DSA.Sign: ctx too long",
-    NO_STATUS,
-    "HashML-DSA.Sign: ctx too long",
-    "HashML-DSA.Sign: OID is empty",
-    "HashML-DSA.Sign: OID is not DER encoded",
-    "Hash of message is too long, should not be more than 1KiB",
-    "HashML-DSA.Sign: digest length does not match the OID",
-    NO_STATUS,
-    NO_STATUS,
-    "ML-DSA.Sign: too many attempts",
-    "Alg 25: s1 or s2 out of range",
-    "sampling limit reached",
-    "the state of a message in pieces is broken",
-    "no call has written this prepared key",
-    "its DER is cut short",
-    "more follows behind the end of its DER",
-    "its DER is damaged",
-    "it has a private key of another version",
-    "its key is not one of ML-DSA-44, ML-DSA-65 or ML-DSA-87",
-    "its key has a wrong length",
-    "its key is one of another parameter set",
-    "the private key is not consistent",
-    "it has no seed: an expanded key does not reveal its seed",
-];
+use crate::proved::mldsa_c::numbers::{DONE, NO_STATUS, TEXTS, WRONG_LENGTH};
 
 /// The text that a table has of a number.
 fn text_at(texts: &[&'static str], number: u32) -> &'static str {
@@ -46,7 +12,7 @@ fn text_at(texts: &[&'static str], number: u32) -> &'static str {
 }
 
 /// The text of a number.
-fn text_of(number: u32) -> &'static str {
+pub(crate) fn text_of(number: u32) -> &'static str {
     text_at(&TEXTS, number)
 }
 

@@ -17,3 +17,17 @@ pub enum DerFault {
     /// A seed or key has another length than those of its algorithm.
     KeyLength,
 }
+
+impl DerFault {
+    /// A sentence about "it", the file.
+    pub fn as_str(&self) -> &'static str {
+        match self {
+            DerFault::Short => "its DER is cut short",
+            DerFault::Behind => "more follows behind the end of its DER",
+            DerFault::Element => "its DER is damaged",
+            DerFault::Version => "it has a private key of another version",
+            DerFault::OtherAlgorithm => "its key is not one of ML-DSA-44, ML-DSA-65 or ML-DSA-87",
+            DerFault::KeyLength => "its key has a wrong length",
+        }
+    }
+}
