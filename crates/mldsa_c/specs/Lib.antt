@@ -4,3 +4,4 @@ pub mod Texts
 pub mod Pieces
 pub mod Prepared
 pub mod Der
+pub mod Sets

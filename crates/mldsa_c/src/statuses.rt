@@ -10,7 +10,7 @@ use fips204_shake::bytes::{Fault, Refusal};
 pub(crate) const DONE: u32 = 0;
 
 /// Of a question: no.
-const NO: u32 = 1;
+pub(crate) const NO: u32 = 1;
 
 /// An array has the wrong length.
 pub(crate) const WRONG_LENGTH: u32 = 2;
