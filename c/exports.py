@@ -111,14 +111,15 @@ def cases(found):
         given += [f"a[ARRAY_{name}].at, a[ARRAY_{name}].len" for name, _ in export.arrays()]
         lines += [f"static uint32_t call_{export.name}(struct array *a, uint32_t number)\n{{\n",
                   f"    (void)a, (void)number;\n    return {export.name}({', '.join(given)});\n}}\n"]
-    # `done` is the result of a call that is done, or the result yes.
-    lines += ["struct export { const char *name; int set; uint32_t (*call)(struct array *, uint32_t), done; int count, "
-              "arrays[ARRAYS], written[ARRAYS]; };\n", "static const struct export CALLS[EXPORTS] = {\n"]
+    # `done` is the result of a call that is done, or the result yes; `is_of_set` tells that its number is a set's.
+    lines += ["struct export { const char *name; int set; uint32_t (*call)(struct array *, uint32_t), done; "
+              "int is_of_set, count, arrays[ARRAYS], written[ARRAYS]; };\n",
+              "static const struct export CALLS[EXPORTS] = {\n"]
     for export in found:
         number = re.match(r"mldsa(\d*)", export.name)[1] or "0"
         used = ", ".join(f"ARRAY_{name}" for name, _ in export.arrays()) or "0"
         written = ", ".join(str(int(is_written)) for _, is_written in export.arrays()) or "0"
-        numbers = f"{int(export.name.endswith('_accepts'))}, {len(export.arrays())}"
+        numbers = f"{int(export.name.endswith('_accepts'))}, {int(export.number() == 'set')}, {len(export.arrays())}"
         lines.append(f'    {{"{export.name}", {number}, call_{export.name}, {numbers}, {{{used}}}, {{{written}}}}},\n')
     return "".join([*lines, "};\n"])
 

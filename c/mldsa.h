@@ -157,7 +157,7 @@ enum mldsa_status {
  *  MLDSA*_STACK_VERIFY_PREPARED      verify_prepared, hash_verify_prepared, verify_mu_prepared
  *  MLDSA*_STACK_DER                  the calls on keys in DER, whose names end in _der
  *  MLDSA_STACK_MU                    mu_begin, mu_begin_private, mldsa_mu_update, mldsa_mu_finish; it is enough for mldsa_version,
- *                                    mldsa_check_pre_hash and mldsa_text_of too
+ *                                    mldsa_check_pre_hash, mldsa_text_of, mldsa_lengths and mldsa_name too
  *
  * glibc gives a thread what `ulimit -s` says, mostly 8 MiB. musl gives it 128 KiB, on which a call that needs more ends the program
  * by SIGSEGV: there give a thread more when it is made, with these attributes; 16384 is for the rest of the thread.
@@ -1026,6 +1026,39 @@ uint32_t mldsa_check_pre_hash(const uint8_t *digest, size_t digest_len, const ui
  * @return MLDSA_DONE or MLDSA_WRONG_LENGTH */
 MLDSA_ANSWERS MLDSA_ARRAY(write_only, 2, 3)
 uint32_t mldsa_text_of(uint32_t status, uint8_t *text, size_t text_len);
+
+/* For languages that read no header: the lengths and the name of a set by its number, 44, 65 or 87. */
+#define MLDSA_LENGTHS_LEN 52
+#define MLDSA_NAME_LEN 16
+
+/** What mldsa_lengths writes, in this order: MLDSA65_PUBLIC_KEY_LEN, and the others likewise. */
+enum mldsa_length {
+    MLDSA_LENGTH_PUBLIC_KEY,
+    MLDSA_LENGTH_PRIVATE_KEY,
+    MLDSA_LENGTH_SIGNATURE,
+    MLDSA_LENGTH_SEED,
+    MLDSA_LENGTH_RANDOM,
+    MLDSA_LENGTH_MU,
+    MLDSA_LENGTH_STATE,
+    MLDSA_LENGTH_PREPARED_PUBLIC_KEY,
+    MLDSA_LENGTH_PREPARED_PRIVATE_KEY,
+    MLDSA_LENGTH_PUBLIC_KEY_DER,
+    MLDSA_LENGTH_SEED_DER,
+    MLDSA_LENGTH_PRIVATE_KEY_DER,
+    MLDSA_LENGTH_BOTH_DER
+};
+
+/** Writes the lengths of a set, each in 4 bytes, the lowest first. The result is MLDSA_NO if no set has the number.
+ * Needs MLDSA_STACK_MU bytes of stack.
+ * @return MLDSA_DONE, MLDSA_WRONG_LENGTH, MLDSA_NO */
+MLDSA_ANSWERS MLDSA_ARRAY(write_only, 2, 3)
+uint32_t mldsa_lengths(uint32_t set, uint8_t *lengths, size_t lengths_len);
+
+/** Writes the name of a set, such as ML-DSA-65, with zeros behind it. The result is MLDSA_NO if no set has the number.
+ * Needs MLDSA_STACK_MU bytes of stack.
+ * @return MLDSA_DONE, MLDSA_WRONG_LENGTH, MLDSA_NO */
+MLDSA_ANSWERS MLDSA_ARRAY(write_only, 2, 3)
+uint32_t mldsa_name(uint32_t set, uint8_t *name, size_t name_len);
 
 /** The text of a result, or of another number. */
 MLDSA_INLINE const char *mldsa_text(uint32_t status)

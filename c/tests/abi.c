@@ -41,6 +41,8 @@ IS(MLDSA_STATE_LEN, 337);
 IS(MLDSA_OID_LEN, 11);
 IS(MLDSA_SEED_DER_LEN, 54);
 IS(MLDSA_TEXT_LEN, 64);
+IS(MLDSA_LENGTHS_LEN, 52);
+IS(MLDSA_NAME_LEN, 16);
 
 #define SET(n, public_key, private_key, signature, prepared_public_key, prepared_private_key)                  \
     IS(MLDSA##n##_PUBLIC_KEY_LEN, public_key);                                                                 \
@@ -94,6 +96,8 @@ HAS(mldsa_mu_finish, IN, OUT);
 HAS(mldsa_check_pre_hash, IN, IN);
 HAS(mldsa_version, void);
 HAS(mldsa_text_of, uint32_t, OUT);
+HAS(mldsa_lengths, uint32_t, OUT);
+HAS(mldsa_name, uint32_t, OUT);
 
 IS(MLDSA_VERSION >> 8, 2);
 

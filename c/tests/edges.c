@@ -147,13 +147,15 @@ static void show(const struct export *call, uint32_t result)
     exit(0);
 }
 
-/* Makes a call with what the arrays hold, keeps what it wrote, and tells whether it is done. */
-static int make(const struct export *call)
+/* Makes a call with what the arrays hold and, if it has a number, with any or with that of the set. Keeps what it wrote, and tells
+ * whether it is done. */
+static int make(const struct export *call, int is_any)
 {
     struct array arrays[ARRAYS] = {0};
     /* (a call whose result for yes is 1 has 0 for all else) */
     uint32_t result, number = (uint32_t)(draw() % 8 ? draw() % 32 : draw()), refusal = call->done ? 0 : MLDSA_WRONG_LENGTH;
     const char *unfit = NULL;
+    number = call->is_of_set && !(is_any && number % 2) ? (uint32_t)SETS[which].number : number;
     snprintf(running, sizeof running, "call %d, %s,", ++made_calls, call->name);
     for (int k = 0; k < call->count; k++) {
         int i = call->arrays[k];
@@ -248,7 +250,7 @@ static void make_changed(const struct export *call, uint64_t changes, uint64_t w
         copy(&was, &now, call->arrays[k]);
     for (; changes && call->count; changes--)
         change(call->arrays[draw() % (uint64_t)call->count], ways);
-    make(call);
+    make(call, 1);
     for (int k = 0; k < call->count; k++)
         copy(&now, &was, call->arrays[k]);
 }
@@ -266,7 +268,7 @@ static void make_round(int count)
     for (int k = 0; k < EXPORTS && !failures; k++) {
         if (!is_of_round(&CALLS[k]))
             continue;
-        if (made_calls < count && !make(&CALLS[k]))
+        if (made_calls < count && !make(&CALLS[k], 0))
             wrong("is not done", "with what the calls before it wrote");
         for (int i = 0; i < CHANGED && made_calls < count && !failures; i++)
             if (i == 0)

@@ -64,6 +64,7 @@ static void change(struct array pools[LEVELS][ARRAYS], const struct export *call
 static uint32_t call_at(int level, const struct export *call, struct array pools[LEVELS][ARRAYS], const char *how)
 {
     uint32_t answer, another, number = (uint32_t)(draw() % 32);
+    number = call->is_of_set ? (uint32_t)SETS[number % 3].number : number;
     WANT(mldsa_x86_64_level(level ? level : LOWEST), level ? level : LOWEST);
     answer = call->call(pools[0], number);
     for (int k = 1; k < LEVELS && !level; k++) {

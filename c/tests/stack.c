@@ -45,8 +45,9 @@ static void pieces(void)
 }
 static void small(void)
 {
-    static uint8_t text[MLDSA_TEXT_LEN];
-    answer = mldsa_text_of(MLDSA_NO_SEED, text, sizeof text) + mldsa_check_pre_hash(seed, 32, SHA256_OID, 11)
+    static uint8_t text[MLDSA_TEXT_LEN], lengths[MLDSA_LENGTHS_LEN], name[MLDSA_NAME_LEN];
+    answer = mldsa_lengths(44, lengths, sizeof lengths) + mldsa_name(44, name, sizeof name)
+        + mldsa_text_of(MLDSA_NO_SEED, text, sizeof text) + mldsa_check_pre_hash(seed, 32, SHA256_OID, 11)
         + (mldsa_version() != MLDSA_VERSION);
 }
 static void prepare_public(void)

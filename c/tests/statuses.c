@@ -213,9 +213,49 @@ static void texts(void)
     }
 }
 
+/* Each length of a set, and its name, are the header's. An array of another length, or for another number, stays as it is. */
+static void sets(void)
+{
+    uint8_t found[MLDSA_LENGTHS_LEN + 1], old[sizeof found];
+    memset(old, 0xA5, sizeof old);
+    for (uint32_t number = 0; number <= 300; number++) {
+        uint32_t told = number == 300 ? UINT32_MAX : number, status = MLDSA_NO;
+        for (const struct set *s = SETS; s < SETS + 3; s++) {
+            const size_t wanted[] = {s->public_key_len, s->private_key_len, s->signature_len, MLDSA_SEED_LEN, MLDSA_RANDOM_LEN,
+                                     MLDSA_MU_LEN, MLDSA_STATE_LEN, s->prepared_public_key_len, s->prepared_private_key_len,
+                                     s->public_key_der_len, MLDSA_SEED_DER_LEN, s->private_key_der_len, s->both_der_len};
+            char name[MLDSA_NAME_LEN] = {0};
+            if ((uint32_t)s->number != told)
+                continue;
+            status = MLDSA_DONE;
+            memset(found, 0xA5, sizeof found);
+            WANT(mldsa_lengths(told, found, MLDSA_LENGTHS_LEN), MLDSA_DONE);
+            for (size_t i = 0; i < sizeof wanted / sizeof *wanted; i++)
+                WANT(found[4 * i] | found[4 * i + 1] << 8 | found[4 * i + 2] << 16 | (uint32_t)found[4 * i + 3] << 24, wanted[i]);
+            WANT(sizeof wanted / sizeof *wanted, MLDSA_LENGTHS_LEN / 4);
+            WANT(wanted[MLDSA_LENGTH_BOTH_DER], s->both_der_len);
+            WANT(found[MLDSA_LENGTHS_LEN], 0xA5);
+            memset(found, 0xA5, sizeof found);
+            snprintf(name, sizeof name, "ML-DSA-%d", s->number);
+            WANT(mldsa_name(told, found, MLDSA_NAME_LEN), MLDSA_DONE);
+            WANT(memcmp(found, name, sizeof name), 0);
+            WANT(found[MLDSA_NAME_LEN], 0xA5);
+        }
+        memset(found, 0xA5, sizeof found);
+        for (size_t length = 0; length <= sizeof found; length++) {
+            if (status != MLDSA_DONE || length != MLDSA_LENGTHS_LEN)
+                WANT(mldsa_lengths(told, found, length), length == MLDSA_LENGTHS_LEN ? status : MLDSA_WRONG_LENGTH);
+            if (status != MLDSA_DONE || length != MLDSA_NAME_LEN)
+                WANT(mldsa_name(told, found, length), length == MLDSA_NAME_LEN ? status : MLDSA_WRONG_LENGTH);
+            WANT(memcmp(found, old, sizeof old), 0);
+        }
+    }
+}
+
 int main(void)
 {
     texts();
+    sets();
     identifiers();
     for (int which = 0; which < 3; which++) {
         keys(&SETS[which], which);

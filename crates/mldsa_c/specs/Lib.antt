@@ -5,3 +5,4 @@ pub mod Texts
 pub mod Pieces
 pub mod Prepared
 pub mod Der
+pub mod Sets

@@ -18,5 +18,6 @@ pub mod pre_hash;
 pub mod prepared_44;
 pub mod prepared_65;
 pub mod prepared_87;
+pub mod sets;
 pub mod statuses;
 pub mod texts;

@@ -26,7 +26,7 @@ pub(crate) fn text_of(number: u32) -> &'static str
 }
 
 /// Writes words, and zeros behind them.
-fn write_padded(words: &[u8], text: &mut [u8])
+pub(crate) fn write_padded(words: &[u8], text: &mut [u8])
     requires { length words.now ≤ length text.old }
     ensures { text.new ≡ words.now ++ replicate (length text.old - length words.now) 0 }
 {

@@ -90,4 +90,6 @@ export!(prepared_87::mldsa87_prepare_private_key(; private_key private_key_len; 
 export!(prepared_87::mldsa87_sign_prepared(; prepared_private_key prepared_private_key_len, message message_len, context context_len, random random_len; signature signature_len));
 export!(prepared_87::mldsa87_hash_sign_prepared(; prepared_private_key prepared_private_key_len, digest digest_len, context context_len, oid oid_len, random random_len; signature signature_len));
 export!(prepared_87::mldsa87_sign_mu_prepared(; prepared_private_key prepared_private_key_len, mu mu_len, random random_len; signature signature_len));
+export!(sets::mldsa_lengths(set; ; lengths lengths_len));
+export!(sets::mldsa_name(set; ; name name_len));
 export!(texts::mldsa_text_of(status; ; text text_len));

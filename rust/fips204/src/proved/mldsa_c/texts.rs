@@ -17,7 +17,7 @@ pub(crate) fn text_of(number: u32) -> &'static str {
 }
 
 /// Writes words, and zeros behind them.
-fn write_padded(words: &[u8], text: &mut [u8]) {
+pub(crate) fn write_padded(words: &[u8], text: &mut [u8]) {
     text.fill(0);
     text[..words.len()].copy_from_slice(words);
 }
