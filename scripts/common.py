@@ -16,13 +16,19 @@ SETS = ("44", "65", "87")
 LENGTHS = {"44": (1312, 2560, 2420), "65": (1952, 4032, 3309), "87": (2592, 4896, 4627)}
 # The kind of processor that this machine has.
 NATIVE = "aarch64" if platform.machine() in ("aarch64", "arm64") else "x86-64"
-# Rust's name for 64-bit ARM with Linux.
-RUST_ARM = "aarch64-unknown-linux-gnu"
 # Manifests of cargo that name the project's page and its repository.
 MANIFESTS = ("rust/fips204/Cargo.toml", "rust/mlsign/Cargo.toml", "rust/capi/Cargo.toml")
-# The processors that qemu emulates here, each with the loader of its programs.
-LOADERS = {"aarch64": "/lib/ld-linux-aarch64.so.1", "i686": "/lib/ld-linux.so.2", "s390x": "/lib/ld64.so.1",
-           "x86_64": "/lib64/ld-linux-x86-64.so.2"}
+# The processors that qemu emulates here, each with qemu's name, the name of Debian's tools, Rust's, and the loader of its
+# programs.
+EMULATED = {
+    "aarch64": ("aarch64", "aarch64-linux-gnu", "aarch64-unknown-linux-gnu", "/lib/ld-linux-aarch64.so.1"),
+    "armv7": ("arm", "arm-linux-gnueabihf", "armv7-unknown-linux-gnueabihf", "/lib/ld-linux-armhf.so.3"),
+    "i686": ("i386", "i686-linux-gnu", "i686-unknown-linux-gnu", "/lib/ld-linux.so.2"),
+    "riscv64": ("riscv64", "riscv64-linux-gnu", "riscv64gc-unknown-linux-gnu", "/lib/ld-linux-riscv64-lp64d.so.1"),
+    "s390x": ("s390x", "s390x-linux-gnu", "s390x-unknown-linux-gnu", "/lib/ld64.so.1"),
+    "x86_64": ("x86_64", "x86_64-linux-gnu", "x86_64-unknown-linux-gnu", "/lib64/ld-linux-x86-64.so.2"),
+}
+RUST_ARM = EMULATED["aarch64"][2]
 # What C2SP publishes (CCTV, "accumulated"): the SHAKE128 of 100 public keys and signatures of each set. The seeds are
 # the output of SHAKE128 for no message; each key signs the empty message under the empty context with 32 bytes 00.
 ACCUMULATED = {
@@ -108,12 +114,12 @@ def need(names, what=""):
 
 def emulator(processor):
     """The words before a program for another kind of processor than this machine's; none before one for its own."""
-    kind = processor if processor in LOADERS else "x86_64"
+    kind = processor if processor in EMULATED else "x86_64"
     if kind == NATIVE.replace("-", "_"):
         return []
     # Debian has the C library of the other kind in one of two places; a loader and a library of both do not fit.
-    own = [] if os.path.exists(LOADERS[kind]) else ["-L", f"/usr/{kind}-linux-gnu"]
-    return [f"qemu-{'i386' if kind == 'i686' else kind}", *own]
+    of_qemu, of_debian, _, loader = EMULATED[kind]
+    return [f"qemu-{of_qemu}", *([] if os.path.exists(loader) else ["-L", f"/usr/{of_debian}"])]
 
 
 def archives(*processors):

@@ -11,8 +11,8 @@ TEST = tools library definitions rust rust-others programs mlsign-rust lint fuzz
 # With the kit: `rt ci`, and what is native, over what it left.
 CHECK = proof tools-check archives secrets ledger mlsign growths native-c native-c-v3 native-c-aarch64 native-c-musl \
 	native-c-clang native-c-sanitized native-c-valgrind native-python native-vectors-v2 native-vectors-v3 \
-	native-vectors-aarch64 native-vectors-mlsign native-alike native-fuzzers rust-aarch64 rust-i686 rust-s390x c-valgrind \
-	secrets-rust module examples packages
+	native-vectors-aarch64 native-vectors-mlsign native-alike native-fuzzers rust-aarch64 rust-armv7 rust-i686 rust-riscv64 \
+	rust-s390x c-valgrind secrets-rust module examples packages
 # Without these nothing shows that the Rust is what was proved: `make check` fails where one of them is not run.
 BRIDGE = erased erasing tokens tokens-tested alike native-alike
 .PHONY: $(TEST) $(CHECK) list-test list-check list-bridge
@@ -78,8 +78,10 @@ native-fuzzers: archives fuzzers ; $(step) clang -- c/fuzz/run --native
 native-vectors-mlsign: proof ; $(step) -- vectors/run mlsign
 growths: proof ; $(step) cc -- tools/refused-growths --programs 44
 rust-aarch64: tools-check ; $(step) cargo -- rust/test --processor aarch64
-# (32 bits, and big-endian)
+# (32 bits twice, a third 64 bits, and big-endian)
+rust-armv7: tools-check ; $(step) cargo -- rust/test --processor armv7
 rust-i686: tools-check ; $(step) cargo -- rust/test --processor i686
+rust-riscv64: tools-check ; $(step) cargo -- rust/test --processor riscv64
 rust-s390x: tools-check ; $(step) cargo -- rust/test --processor s390x
 secrets: archives ; $(step) gcc valgrind -- bench/secrets/run
 secrets-rust: library ; $(step) gcc valgrind -- bench/secrets/run --rust
