@@ -73,9 +73,9 @@ pub mod ml_dsa_44 {
     crate::set::parameter_set!("ml_dsa_44", MlDsa44, 1312, 2560, 2420);
     crate::prepared::prepared_keys!("ml_dsa_44", 17760, 18944);
     crate::set::stack!(
-        KEYGEN: 53_248,
+        KEYGEN: 54_272,
         SIGN: 115_712,
-        VERIFY: 51_200,
+        VERIFY: 52_224,
         PUBLIC_KEY: 88_064,
         CHECK: 49_152,
         WHOLE: 72_704,
@@ -94,16 +94,16 @@ pub mod ml_dsa_65 {
     crate::set::parameter_set!("ml_dsa_65", MlDsa65, 1952, 4032, 3309);
     crate::prepared::prepared_keys!("ml_dsa_65", 32736, 34752);
     crate::set::stack!(
-        KEYGEN: 71_680,
+        KEYGEN: 72_704,
         SIGN: 152_576,
-        VERIFY: 64_512,
+        VERIFY: 65_536,
         PUBLIC_KEY: 126_976,
         CHECK: 69_632,
         WHOLE: 103_424,
         PAIR: 108_544,
-        PREPARE_PUBLIC_KEY: 73_728,
+        PREPARE_PUBLIC_KEY: 74_752,
         VERIFY_PREPARED: 51_200,
-        PREPARE_PRIVATE_KEY: 96_256,
+        PREPARE_PRIVATE_KEY: 97_280,
         SIGN_PREPARED: 152_576,
         DER: 111_616,
     );
@@ -115,16 +115,16 @@ pub mod ml_dsa_87 {
     crate::set::parameter_set!("ml_dsa_87", MlDsa87, 2592, 4896, 4627);
     crate::prepared::prepared_keys!("ml_dsa_87", 60000, 62240);
     crate::set::stack!(
-        KEYGEN: 90_112,
+        KEYGEN: 91_136,
         SIGN: 208_896,
         VERIFY: 78_848,
         PUBLIC_KEY: 168_960,
         CHECK: 92_160,
         WHOLE: 137_216,
         PAIR: 146_432,
-        PREPARE_PUBLIC_KEY: 114_688,
+        PREPARE_PUBLIC_KEY: 115_712,
         VERIFY_PREPARED: 66_560,
-        PREPARE_PRIVATE_KEY: 142_336,
+        PREPARE_PRIVATE_KEY: 143_360,
         SIGN_PREPARED: 208_896,
         DER: 149_504,
     );
