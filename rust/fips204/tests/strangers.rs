@@ -191,20 +191,25 @@ macro_rules! tests_of_a_set {
                 b"\x30\x82",
             ];
 
-            /// A text that is read is the one that is written again, but for the ends of its lines.
+            /// A text that is read has the one that is written again, but for white space, and begins no other.
+            fn has_text(given: &str, written: &str) {
+                let black = |text: &str| text.split_ascii_whitespace().collect::<String>();
+                assert!(black(given).contains(&black(written)), "{given}");
+                assert_eq!(given.matches("-----BEGIN ").count(), 1, "{given}");
+            }
+
             fn read_pem(text: &[u8]) {
                 let text = String::from_utf8_lossy(text);
-                let plain = text.replace("\r\n", "\n");
                 if let Ok(read) = PublicKey::from_pem(&text) {
-                    assert_eq!(read.to_pem().unwrap(), plain);
+                    has_text(&text, &read.to_pem().unwrap());
                 }
                 if let Ok(seed) = PrivateKey::seed_from_pem(&text) {
-                    assert_eq!(PrivateKey::seed_to_pem(&seed).unwrap(), plain);
+                    has_text(&text, &PrivateKey::seed_to_pem(&seed).unwrap());
                     let (_, generated) = KG::keygen_from_seed(&seed);
                     let read = PrivateKey::from_pem(&text).unwrap();
                     assert_eq!(read.as_bytes(), generated.as_bytes());
                 } else if let Ok(read) = PrivateKey::from_pem(&text) {
-                    assert_eq!(read.to_pem().unwrap(), plain);
+                    has_text(&text, &read.to_pem().unwrap());
                     assert_eq!(read.is_pair(), Ok(true));
                 }
             }
