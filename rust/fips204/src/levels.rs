@@ -22,19 +22,50 @@ macro_rules! with_sse42_and_avx2 {
 }
 pub(crate) use with_sse42_and_avx2;
 
-/// Whether a function of either is compiled for processors with AVX-512VL too: Keccak's four states, which are vectors of 256
-/// bits, are then rotated by one instruction, and chi is one as well.
+/// The level from which a function of either is compiled for AVX-512VL too, or 0 if it is not. Keccak's four states are vectors of
+/// 256 bits, which are then rotated by one instruction, and chi is one as well. In the others the compiler takes vectors of 512
+/// bits, and the first processors that have these slow down for them. What is in neither list gains little, and would be long.
 #[allow(unused_macros)] // where nothing is chosen, and before Rust 1.89
-macro_rules! is_for_avx512 {
+macro_rules! level_of_avx512 {
     (f1600_four) => {
-        true
+        crate::levels::AVX512
+    };
+    (write_lanes_ntt) => {
+        crate::levels::WIDE
+    };
+    (write_lanes_inv_ntt) => {
+        crate::levels::WIDE
+    };
+    (of) => {
+        crate::levels::WIDE
+    };
+    (write_row_sums) => {
+        crate::levels::WIDE
+    };
+    (write_multiple) => {
+        crate::levels::WIDE
+    };
+    (write_multiples) => {
+        crate::levels::WIDE
+    };
+    (write_difference) => {
+        crate::levels::WIDE
+    };
+    (write_low_vector) => {
+        crate::levels::WIDE
+    };
+    (write_hint) => {
+        crate::levels::WIDE
+    };
+    (write_hinted) => {
+        crate::levels::WIDE
     };
     ($other:ident) => {
-        false
+        0
     };
 }
 #[allow(unused_imports)]
-pub(crate) use is_for_avx512;
+pub(crate) use level_of_avx512;
 
 /// What both declare, after whether there is that for SSE4.2.
 macro_rules! chosen {
@@ -69,7 +100,7 @@ macro_rules! chosen {
                     for_any($($argument),+)
                 }
                 #[cfg(avx512_is_stable)]
-                if crate::levels::is_for_avx512!($name) && crate::levels::has(crate::levels::AVX512) {
+                if crate::levels::level_of_avx512!($name) > 0 && crate::levels::has(crate::levels::level_of_avx512!($name)) {
                     #[target_feature(enable = "avx512vl,bmi1,bmi2")]
                     fn for_avx512 $(<$(const $size: usize),+>)? ($($argument: $type),+) $(-> $result)? {
                         for_any($($argument),+)
@@ -157,11 +188,15 @@ pub(crate) const AVX2: u8 = 3;
 #[cfg(target_arch = "x86_64")]
 pub(crate) const AVX512: u8 = 4;
 
+/// That of one with AVX-512VBMI2 too: Intel's since Ice Lake, and AMD's since Zen 4, which run vectors of 512 bits at full speed.
+#[cfg(target_arch = "x86_64")]
+pub(crate) const WIDE: u8 = 5;
+
 /// 0 until it was asked, then one of these. Whoever asks at the same time finds the same.
 #[cfg(target_arch = "x86_64")]
 static KNOWN: AtomicU8 = AtomicU8::new(0);
 
-/// Whether the processor is of this level, `SSE42`, `AVX2` or `AVX512`, or above.
+/// Whether the processor is of this level, from `SSE42` to `WIDE`, or above.
 #[cfg(target_arch = "x86_64")]
 #[allow(dead_code)] // where all is compiled for AVX2, nothing is chosen
 #[inline(always)]
@@ -225,7 +260,8 @@ fn found() -> u8 {
         if fma & f16c & avx512f & avx512vl == 0 || kept() & 0xe0 != 0xe0 {
             return AVX2;
         }
-        AVX512
+        let avx512vbmi2 = seventh.ecx >> 6 & 1;
+        if avx512vbmi2 == 1 { WIDE } else { AVX512 }
     }
 }
 
@@ -233,7 +269,7 @@ fn found() -> u8 {
 mod tests {
     extern crate std;
 
-    use super::{ANY, AVX2, AVX512, KNOWN, Ordering, SSE42, found, has};
+    use super::{ANY, AVX2, AVX512, KNOWN, Ordering, SSE42, WIDE, found, has};
     use crate::proved::fips204_shake::{Input, MlDsa65};
 
     /// A pair and a signature, which the public key accepts.
@@ -259,13 +295,15 @@ mod tests {
             && std::is_x86_feature_detected!("avx512vl")
             && std::is_x86_feature_detected!("fma")
             && std::is_x86_feature_detected!("f16c");
-        let highest = match (has_sse42, has_all, has_avx512) {
+        let has_vbmi2 = std::is_x86_feature_detected!("avx512vbmi2");
+        let highest = match (has_sse42, has_all, has_avx512, has_vbmi2) {
             (false, ..) => ANY,
-            (true, false, _) => SSE42,
-            (true, true, false) => AVX2,
-            (true, true, true) => AVX512,
+            (true, false, ..) => SSE42,
+            (true, true, false, _) => AVX2,
+            (true, true, true, false) => AVX512,
+            (true, true, true, true) => WIDE,
         };
-        let all = [SSE42, AVX2, AVX512];
+        let all = [SSE42, AVX2, AVX512, WIDE];
         let of_level = |level| all.map(has) == all.map(|it| level >= it);
         assert!(of_level(highest));
         assert_eq!(found(), highest);
