@@ -1,4 +1,4 @@
-/* Each call at the levels of x86-64, 2 and 3 and with -DLOWEST=1 also 1: equal results, and equal bytes in every array
+/* Each call at the levels of x86-64, 2 and 3, or from LOWEST to HIGHEST: equal results, and equal bytes in every array
  * afterwards.
  *
  *   levels SET COUNT        so many cases of a set, 44, 65 or 87; each call with an array also with something changed, and each
@@ -14,7 +14,9 @@
 #ifndef LOWEST
 #define LOWEST 2
 #endif
+#ifndef HIGHEST
 #define HIGHEST 3
+#endif
 #define LEVELS (HIGHEST + 1 - LOWEST)
 
 /* What a case has in its arrays at each level, the lowest first, and what it has in them changed. */

@@ -1,4 +1,5 @@
-//! The choice of code for SSE4.2 and for AVX2 when the program runs. What is unsafe of this package stands here.
+//! The choice of code for SSE4.2, for AVX2 and for AVX-512 when the program runs. What is unsafe of this package stands here, and
+//! where `simd.rs` makes a vector of bytes.
 #![allow(unsafe_code)]
 
 #[cfg(target_arch = "x86_64")]
@@ -20,6 +21,51 @@ macro_rules! with_sse42_and_avx2 {
     };
 }
 pub(crate) use with_sse42_and_avx2;
+
+/// The level from which a function of either is compiled for AVX-512VL too, or 0 if it is not. Keccak's four states are vectors of
+/// 256 bits, which are then rotated by one instruction, and chi is one as well. In the others the compiler takes vectors of 512
+/// bits, and the first processors that have these slow down for them. What is in neither list gains little, and would be long.
+#[allow(unused_macros)] // where nothing is chosen, and before Rust 1.89
+macro_rules! level_of_avx512 {
+    (f1600_four) => {
+        crate::levels::AVX512
+    };
+    (write_lanes_ntt) => {
+        crate::levels::WIDE
+    };
+    (write_lanes_inv_ntt) => {
+        crate::levels::WIDE
+    };
+    (of) => {
+        crate::levels::WIDE
+    };
+    (write_row_sums) => {
+        crate::levels::WIDE
+    };
+    (write_multiple) => {
+        crate::levels::WIDE
+    };
+    (write_multiples) => {
+        crate::levels::WIDE
+    };
+    (write_difference) => {
+        crate::levels::WIDE
+    };
+    (write_low_vector) => {
+        crate::levels::WIDE
+    };
+    (write_hint) => {
+        crate::levels::WIDE
+    };
+    (write_hinted) => {
+        crate::levels::WIDE
+    };
+    ($other:ident) => {
+        0
+    };
+}
+#[allow(unused_imports)]
+pub(crate) use level_of_avx512;
 
 /// What both declare, after whether there is that for SSE4.2.
 macro_rules! chosen {
@@ -52,6 +98,16 @@ macro_rules! chosen {
                 #[inline(never)]
                 fn for_others $(<$(const $size: usize),+>)? ($($argument: $type),+) $(-> $result)? {
                     for_any($($argument),+)
+                }
+                #[cfg(avx512_is_stable)]
+                if crate::levels::level_of_avx512!($name) > 0 && crate::levels::has(crate::levels::level_of_avx512!($name)) {
+                    #[target_feature(enable = "avx512vl,bmi1,bmi2")]
+                    fn for_avx512 $(<$(const $size: usize),+>)? ($($argument: $type),+) $(-> $result)? {
+                        for_any($($argument),+)
+                    }
+                    // SAFETY: the processor has AVX-512VL, BMI1 and BMI2, and the system keeps its registers.
+                    #[allow(unsafe_code)]
+                    return unsafe { for_avx512($($argument),+) };
                 }
                 if crate::levels::has(crate::levels::AVX2) {
                     // SAFETY: the processor has AVX2, BMI1 and BMI2, and the system keeps its registers.
@@ -128,13 +184,21 @@ pub(crate) const SSE42: u8 = 2;
 /// That of one with AVX2, BMI1 and BMI2 too, if the system keeps its registers.
 #[cfg(target_arch = "x86_64")]
 pub(crate) const AVX2: u8 = 3;
+/// That of one with AVX-512VL too, and with what that stands on: AVX-512F, FMA and F16C.
+#[cfg(target_arch = "x86_64")]
+pub(crate) const AVX512: u8 = 4;
+
+/// That of one with AVX-512VBMI2 too: Intel's since Ice Lake, and AMD's since Zen 4, which run vectors of 512 bits at full speed.
+#[cfg(target_arch = "x86_64")]
+pub(crate) const WIDE: u8 = 5;
 
 /// 0 until it was asked, then one of these. Whoever asks at the same time finds the same.
 #[cfg(target_arch = "x86_64")]
 static KNOWN: AtomicU8 = AtomicU8::new(0);
 
-/// Whether the processor is of this level, `SSE42` or `AVX2`, or above.
+/// Whether the processor is of this level, from `SSE42` to `WIDE`, or above.
 #[cfg(target_arch = "x86_64")]
+#[allow(dead_code)] // where all is compiled for AVX2, nothing is chosen
 #[inline(always)]
 pub(crate) fn has(level: u8) -> bool {
     let known = KNOWN.load(Ordering::Relaxed);
@@ -149,28 +213,6 @@ fn asked() -> u8 {
     let found = found();
     KNOWN.store(found, Ordering::Relaxed);
     found
-}
-
-/// The bytes at these places among those of both numbers, the low one first, on a processor that has SSE4.2.
-#[cfg(target_arch = "x86_64")]
-#[inline(always)]
-pub(crate) fn shuffled(x: u128, y: u128, places: [usize; 16]) -> u128 {
-    use core::arch::x86_64::{__m128i, _mm_or_si128, _mm_shuffle_epi8};
-    use core::mem::transmute;
-
-    // (where the top bit is set, the instruction gives 0)
-    let of_first = places.map(|it| if it < 16 { it as u8 } else { 0x80 });
-    let of_second = places.map(|it| if it < 16 { 0x80 } else { it as u8 - 16 });
-    // SAFETY: each is 16 bytes of any bits, and a processor of level `SSE42` or above has SSSE3.
-    unsafe {
-        let chosen = |it: u128, places: [u8; 16]| {
-            _mm_shuffle_epi8(
-                transmute::<u128, __m128i>(it),
-                transmute::<[u8; 16], __m128i>(places),
-            )
-        };
-        transmute::<__m128i, u128>(_mm_or_si128(chosen(x, of_first), chosen(y, of_second)))
-    }
 }
 
 /// What the processor says.
@@ -209,7 +251,17 @@ fn found() -> u8 {
             seventh.ebx >> 5 & 1,
             seventh.ebx >> 8 & 1,
         );
-        if bmi1 & avx2 & bmi2 == 1 { AVX2 } else { SSE42 }
+        if bmi1 & avx2 & bmi2 == 0 {
+            return SSE42;
+        }
+        let (fma, f16c) = (first.ecx >> 12 & 1, first.ecx >> 29 & 1);
+        let (avx512f, avx512vl) = (seventh.ebx >> 16 & 1, seventh.ebx >> 31);
+        // bits 5 to 7 are for the masks and for what AVX-512 adds to the registers of AVX
+        if fma & f16c & avx512f & avx512vl == 0 || kept() & 0xe0 != 0xe0 {
+            return AVX2;
+        }
+        let avx512vbmi2 = seventh.ecx >> 6 & 1;
+        if avx512vbmi2 == 1 { WIDE } else { AVX512 }
     }
 }
 
@@ -217,7 +269,7 @@ fn found() -> u8 {
 mod tests {
     extern crate std;
 
-    use super::{ANY, AVX2, KNOWN, Ordering, SSE42, found, has};
+    use super::{ANY, AVX2, AVX512, KNOWN, Ordering, SSE42, WIDE, found, has};
     use crate::proved::fips204_shake::{Input, MlDsa65};
 
     /// A pair and a signature, which the public key accepts.
@@ -239,12 +291,20 @@ mod tests {
         let has_all = std::is_x86_feature_detected!("avx2")
             && std::is_x86_feature_detected!("bmi1")
             && std::is_x86_feature_detected!("bmi2");
-        let highest = match (has_sse42, has_all) {
-            (false, _) => ANY,
-            (true, false) => SSE42,
-            (true, true) => AVX2,
+        let has_avx512 = std::is_x86_feature_detected!("avx512f")
+            && std::is_x86_feature_detected!("avx512vl")
+            && std::is_x86_feature_detected!("fma")
+            && std::is_x86_feature_detected!("f16c");
+        let has_vbmi2 = std::is_x86_feature_detected!("avx512vbmi2");
+        let highest = match (has_sse42, has_all, has_avx512, has_vbmi2) {
+            (false, ..) => ANY,
+            (true, false, ..) => SSE42,
+            (true, true, false, _) => AVX2,
+            (true, true, true, false) => AVX512,
+            (true, true, true, true) => WIDE,
         };
-        let of_level = |level| (has(SSE42), has(AVX2)) == (level >= SSE42, level >= AVX2);
+        let all = [SSE42, AVX2, AVX512, WIDE];
+        let of_level = |level| all.map(has) == all.map(|it| level >= it);
         assert!(of_level(highest));
         assert_eq!(found(), highest);
         let by_highest = made();
