@@ -27,7 +27,7 @@ pub(crate) use with_sse42_and_avx2;
 /// bits, and the first processors that have these slow down for them. What is in neither list gains little, and would be long.
 #[allow(unused_macros)] // where nothing is chosen, and before Rust 1.89
 macro_rules! level_of_avx512 {
-    (f1600_four) => {
+    (f1600x4) => {
         crate::levels::AVX512
     };
     (write_lanes_ntt) => {
