@@ -1,4 +1,5 @@
-//! The choice of code for SSE4.2 and for AVX2 when the program runs. What is unsafe of this package stands here.
+//! The choice of code for SSE4.2 and for AVX2 when the program runs. What is unsafe of this package stands here, and for
+//! WebAssembly in `simd/wasm32.rs`.
 #![allow(unsafe_code)]
 
 #[cfg(target_arch = "x86_64")]
