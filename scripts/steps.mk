@@ -5,9 +5,9 @@ step = @nice -n 15 scripts/gate --step $@ '$^'
 python = flock out/python.lock
 
 # Without the kit, over what cargo builds: what others wait for, and then the longest first.
-TEST = tools library module definitions rust rust-others programs mlsign-rust lint fuzzers c-gcc c-clang c-sanitized js erasing python \
-	vectors-wasm vectors-rust vectors-c vectors-mlsign alike refusals pages typed js-page erased tokens tokens-tested sets \
-	installs
+TEST = tools library module definitions rust rust-others programs mlsign-rust lint fuzzers c-gcc c-clang c-sanitized js \
+	erasing python vectors-wasm vectors-rust vectors-c vectors-mlsign alike alike-wasm refusals pages typed js-page erased \
+	tokens tokens-tested sets installs
 # With the kit: `rt ci`, and what is native, over what it left.
 CHECK = proof tools-check archives secrets ledger mlsign growths native-c native-c-v3 native-c-aarch64 native-c-musl \
 	native-c-clang native-c-sanitized native-c-valgrind native-python native-vectors-v2 native-vectors-v3 \
@@ -48,6 +48,7 @@ mlsign-rust: tools ; $(step) cargo cc -- tests/mlsign/run --rust
 vectors-mlsign: mlsign-rust ; $(step) -- vectors/run mlsign out/archive/mlsign/mlsign
 vectors-rust: tools ; $(step) cargo -- vectors/run rust
 vectors-wasm: tools ; $(step) node -- vectors/run wasm
+alike-wasm: library ; $(step) node gcc -- vectors/run alike
 module: tools ; $(step) cargo node -- js/module
 js: tools ; $(step) node -- js/test --package
 js-page: tools ; $(step) node -- js/test --page

@@ -22,7 +22,7 @@ fn main() {
         }
     }
     if var("CARGO_CFG_TARGET_ARCH").unwrap() == "wasm32" {
-        // (a call uses at most 155,824 of these bytes; the tests of js/ ask that an eighth stays free)
+        // (a call uses at most 154,800 of these bytes; the tests of js/ ask that an eighth stays free)
         println!("cargo::rustc-cdylib-link-arg=-zstack-size=196608");
     }
 }

@@ -20,7 +20,21 @@ pub(crate) trait CastTo<T> {
     fn cast_to(self) -> Self::Output;
 }
 
-/// Eight lanes, four in each vector.
+/// The lanes of two vectors in turns.
+#[inline(always)]
+fn in_turns([even, odd]: [v128; 2]) -> [v128; 2] {
+    let first = i32x4_shuffle::<0, 4, 1, 5>(even, odd);
+    [first, i32x4_shuffle::<2, 6, 3, 7>(even, odd)]
+}
+
+/// The lanes that `in_turns` takes.
+#[inline(always)]
+fn apart([first, last]: [v128; 2]) -> [v128; 2] {
+    let even = i32x4_shuffle::<0, 2, 4, 6>(first, last);
+    [even, i32x4_shuffle::<1, 3, 5, 7>(first, last)]
+}
+
+/// Eight lanes: in one vector those at even places, in the other those at odd ones. So both halves of wider lanes are vectors.
 #[derive(Clone, Copy)]
 pub(crate) struct i32x8([v128; 2]);
 
@@ -28,13 +42,13 @@ impl i32x8 {
     #[inline(always)]
     pub(crate) fn from_array(lanes: [i32; 8]) -> i32x8 {
         // SAFETY: both are 32 bytes of any bits.
-        i32x8(unsafe { transmute::<[i32; 8], [v128; 2]>(lanes) })
+        i32x8(apart(unsafe { transmute::<[i32; 8], [v128; 2]>(lanes) }))
     }
 
     #[inline(always)]
     pub(crate) fn to_array(self) -> [i32; 8] {
         // SAFETY: both are 32 bytes of any bits.
-        unsafe { transmute::<[v128; 2], [i32; 8]>(self.0) }
+        unsafe { transmute::<[v128; 2], [i32; 8]>(in_turns(self.0)) }
     }
 
     #[inline(always)]
@@ -49,8 +63,8 @@ impl i32x8 {
         let lane = |p: usize| if p < 8 { own[p] } else { other[p - 8] };
         let [a, b, c, d, e, f, g, h] = places;
         i32x8([
-            vectors::i32x4(lane(a), lane(b), lane(c), lane(d)),
-            vectors::i32x4(lane(e), lane(f), lane(g), lane(h)),
+            vectors::i32x4(lane(a), lane(c), lane(e), lane(g)),
+            vectors::i32x4(lane(b), lane(d), lane(f), lane(h)),
         ])
     }
 
@@ -77,13 +91,13 @@ impl i32x8 {
         mask32x8(self.each(other, |x, y| i32x4_eq(x, y)))
     }
 
-    /// Two neighbours each, which become the halves of a wider lane, the low half first.
+    /// The lanes as halves of wider ones: the low halves, and the high ones.
     #[inline(always)]
     pub(crate) fn to_le_bytes(self) -> [v128; 2] {
         self.0
     }
 
-    /// The lanes of these halves of wider ones, the low half first.
+    /// The lanes of these halves of wider ones.
     #[inline(always)]
     pub(crate) fn from_le_bytes(halves: [v128; 2]) -> i32x8 {
         i32x8(halves)
@@ -144,10 +158,10 @@ pub(crate) struct i64x4 {
 impl i64x4 {
     #[inline(always)]
     fn of_whole(whole: [v128; 2]) -> i64x4 {
-        let [x, y] = whole;
+        let [low, high] = apart(whole);
         i64x4 {
-            low: i32x4_shuffle::<0, 2, 4, 6>(x, y),
-            high: i32x4_shuffle::<1, 3, 5, 7>(x, y),
+            low,
+            high,
             whole,
             is_narrow: false,
             splat: None,
@@ -156,12 +170,10 @@ impl i64x4 {
 
     #[inline(always)]
     fn of_halves(low: v128, high: v128) -> i64x4 {
-        let first = i32x4_shuffle::<0, 4, 1, 5>(low, high);
-        let last = i32x4_shuffle::<2, 6, 3, 7>(low, high);
         i64x4 {
             low,
             high,
-            whole: [first, last],
+            whole: in_turns([low, high]),
             is_narrow: false,
             splat: None,
         }
@@ -176,16 +188,16 @@ impl i64x4 {
         }
     }
 
-    /// The lanes that have these halves, the low half first.
+    /// The lanes that have these halves.
     #[inline(always)]
-    pub(crate) fn from_le_bytes(halves: [v128; 2]) -> i64x4 {
-        i64x4::of_whole(halves)
+    pub(crate) fn from_le_bytes([low, high]: [v128; 2]) -> i64x4 {
+        i64x4::of_halves(low, high)
     }
 
-    /// The halves of the lanes, the low half first.
+    /// The halves of the lanes.
     #[inline(always)]
     pub(crate) fn to_le_bytes(self) -> [v128; 2] {
-        self.whole
+        [self.low, self.high]
     }
 }
 
