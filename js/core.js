@@ -74,7 +74,7 @@ const ABOUT = {
     DIGEST_LENGTH: ["digest", ({ oid }) => `not ${FUNCTIONS.find(([, arc]) => arc === oid[oid.length - 1])[2]}`],
 };
 
-const UNSUPPORTED = "this engine lacks BigInt, or the bulk memory or sign extension of WebAssembly: a newer one has them";
+const UNSUPPORTED = "this engine lacks the vectors (SIMD), bulk memory or sign extension of WebAssembly: a newer one has them";
 
 /** The name of a result in `STATUSES`, with its number and text. */
 function codeOf(status) {
@@ -92,15 +92,15 @@ export class MlDsaError extends Error {
     }
 }
 
-/** A module with what the library's has: a memory of 32 bits, 64-bit numbers, memory.fill and i64.extend8_s. */
+/** A module with what the library's has: a memory of 32 bits, memory.fill, i64.extend8_s and i64x2.splat. */
 const PROBE = new Uint8Array([
     0, 0x61, 0x73, 0x6d, 1, 0, 0, 0, 1, 4, 1, 0x60, 0, 0, 3, 2, 1, 0, 5, 3, 1, 0, 0,
-    10, 17, 1, 15, 0, 0x41, 0, 0x41, 0, 0x41, 0, 0xfc, 11, 0, 0x42, 0, 0xc2, 0x1a, 0x0b,
+    10, 19, 1, 17, 0, 0x41, 0, 0x41, 0, 0x41, 0, 0xfc, 11, 0, 0x42, 0, 0xc2, 0xfd, 18, 0x1a, 0x0b,
 ]);
 
 /** Whether this engine can run the library. */
 export function isSupported() {
-    return typeof WebAssembly === "object" && typeof BigInt === "function" && WebAssembly.validate(PROBE);
+    return typeof WebAssembly === "object" && WebAssembly.validate(PROBE);
 }
 
 /** The object identifiers of FUNCTIONS but for their last byte: 2.16.840.1.101.3.4.2. */
@@ -131,19 +131,21 @@ class Library {
     constructor(module, instance, random) {
         this.random = random;
         this.#module = module;
-        this.#take(instance);
-        const found = instance.exports.mldsa_version?.();
-        if (found >>> 8 !== VERSION >>> 8 || found < VERSION) {
+        const { mldsa_version, __heap_base } = instance.exports;
+        const found = mldsa_version?.();
+        // (an older module has places of 64 bits)
+        if (found >>> 8 !== VERSION >>> 8 || found < VERSION || typeof __heap_base?.value !== "number") {
             const text = [VERSION >>> 16, (VERSION >>> 8) & 255, VERSION & 255].join(".");
             throw new Error(`the module is not mldsa.wasm of version ${text}, or a later one with the same calls`);
         }
+        this.#take(instance);
     }
 
     /** Takes an instance that no call has used. */
     #take({ exports }) {
         this.#exports = exports;
         this.#memory = exports.memory;
-        this.#heap = Number(exports.__heap_base.value);
+        this.#heap = exports.__heap_base.value;
         // Below the heap lie the stack, which is all zeros at first, and the module's constants.
         const first = new Uint8Array(this.#memory.buffer, 0, this.#heap);
         const begin = first.findIndex((byte) => byte !== 0);
@@ -175,7 +177,7 @@ class Library {
         let answered;
         try {
             [...read, ...written].forEach((it, i) => typeof it === "number" || memory.set(it, places[i]));
-            const words = lengths.flatMap((length, i) => [BigInt(places[i]), BigInt(length)]);
+            const words = lengths.flatMap((length, i) => [places[i], length]);
             const status = this.#exports[name](...words);
             const ends = lengths.map((length, i) => places[i] + length);
             answered = [status, ...written.map((_, i) => memory.slice(places[read.length + i], ends[read.length + i]))];

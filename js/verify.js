@@ -169,8 +169,8 @@ async function takeThree(library, files) {
 function start() {
     if (!isSupported()) {
         show("unknown", "No answer", [
-            "This browser cannot run the check, because it lacks BigInt, or its WebAssembly bulk memory or sign ",
-            "extension. A newer one has them. Nothing was checked.",
+            "This browser cannot run the check, because it lacks the vectors (SIMD), bulk memory or sign ",
+            "extension of WebAssembly. A newer one has them. Nothing was checked.",
         ]);
         for (const input of document.querySelectorAll("input")) {
             input.disabled = true;

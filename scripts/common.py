@@ -106,6 +106,19 @@ def rust_for(target):
     return None
 
 
+def source_of(folder):
+    """Where the rustc of a folder has the source of its standard library, or None."""
+    source = pathlib.Path(printed(f"{folder}/rustc", "--print", "sysroot"), "lib/rustlib/src/rust/library")
+    return source if (source / "vendor").is_dir() else None
+
+
+def rust_or_source(target):
+    """What `rust_for` gives, and None; or where it gives none the first folder whose rustc has the source of its
+    standard library, and that source; or None twice."""
+    folder = rust_for(target)
+    return (folder, None) if folder else next(((it, found) for it in rusts() if (found := source_of(it))), (None, None))
+
+
 def need(names, what=""):
     """Ends where something is missing."""
     if names:
@@ -154,10 +167,18 @@ def wheel(processor):
 
 
 def note_of(file):
-    """What stands beside a file that scripts/archive made: its sum, and by what and of which commit it was made."""
+    """What `write_note` put beside a file."""
     place = file.with_name(f"{file.name}.made")
     lines = place.read_text(encoding="utf-8").splitlines() if place.is_file() else []
     return {name: said.strip() for name, _, said in (line.partition(" ") for line in lines)}
+
+
+def write_note(file, *lines):
+    """Writes what stands beside a file that was made: its sum, of which commit it is, and these lines."""
+    changed = ", and changes that are not committed" if printed("git", "-C", str(TOP), "status", "--porcelain") else ""
+    commit = f"commit {printed('git', '-C', str(TOP), 'rev-parse', 'HEAD')}{changed}"
+    said = "".join(f"{line}\n" for line in (f"sum {sum_of(file)}", commit, *lines))
+    file.with_name(f"{file.name}.made").write_text(said, encoding="utf-8")
 
 
 def sum_of(file):

@@ -6,7 +6,7 @@ python = flock out/python.lock
 
 # Without the kit, over what cargo builds: what others wait for, and then the longest first.
 TEST = tools library definitions rust rust-others programs mlsign-rust lint fuzzers c-gcc c-clang c-sanitized js erasing python \
-	vectors-wasm vectors-rust vectors-c vectors-mlsign alike refusals pages typed js-page erased tokens tokens-tested sets results \
+	vectors-wasm vectors-rust vectors-c vectors-mlsign alike alike-wasm refusals pages typed js-page erased tokens tokens-tested sets results \
 	installs
 # With the kit: `rt ci`, and what is native, over what it left.
 CHECK = proof tools-check archives secrets ledger mlsign growths native-c native-c-v3 native-c-aarch64 native-c-musl \
@@ -49,6 +49,7 @@ mlsign-rust: tools ; $(step) cargo cc -- tests/mlsign/run --rust
 vectors-mlsign: mlsign-rust ; $(step) -- vectors/run mlsign out/archive/mlsign/mlsign
 vectors-rust: tools ; $(step) cargo -- vectors/run rust
 vectors-wasm: tools ; $(step) node -- vectors/run wasm
+alike-wasm: library ; $(step) node gcc -- vectors/run alike
 js: tools ; $(step) node -- js/test --package
 js-page: tools ; $(step) node -- js/test --page
 python: library ; $(step) cargo -- $(python) python/test --processor rust
@@ -58,8 +59,9 @@ refusals: tools ; $(step) git gcc -- packaging/test_release.py
 # What `rt check` left goes first, since `rt ci` puts it back in the place of what it proved itself.
 proof: ; @scripts/gate --step $@ '' -- sh -c 'rm -rf crates/*/out/rlib && exec rt ci'
 tools-check: tools ; $(step) -- scripts/tools --check
-archives: proof tools-check ; $(step) -- scripts/archive x86-64-v2 x86-64-v3 x86-64 aarch64 wasm
-module: archives ; $(step) wasm-opt -- js/module
+# (which wants the source of Rust's standard library)
+module: tools-check ; $(step) cargo node -- js/module
+archives: proof tools-check ; $(step) -- scripts/archive x86-64-v2 x86-64-v3 x86-64 aarch64
 native-c: archives ; $(step) gcc g++ nm -- c/test --processor x86-64 x86-64-v2
 native-c-v3: archives ; $(step) gcc g++ nm -- c/test --processor x86-64-v3
 native-c-aarch64: archives ; $(step) aarch64-linux-gnu-gcc aarch64-linux-gnu-g++ qemu-aarch64 -- c/test --processor aarch64

@@ -305,19 +305,25 @@ test("a module of another version is refused when it is loaded", async (t) => {
     const { instantiate } = WebAssembly;
     const version = Number(header.match(/#define MLDSA_VERSION (0x\w+)/)[1]);
     let said;
+    let changed = {};
     t.mock.method(WebAssembly, "instantiate", async (...words) => {
         const { exports } = await instantiate.call(WebAssembly, ...words);
-        return { exports: { ...exports, mldsa_version: said } };
+        return { exports: { ...exports, mldsa_version: said, ...changed } };
     });
     for (const found of [version, version + 1, version | 255]) {
         said = () => found;
         assert.equal((await load(code)).mlDsa44.keygen(SEED).publicKey.length, 1312);
     }
     const others = [version - 1, version + 256, version - 256, version + 65536, version ^ 0x80000000, 0];
+    const refused = () => assert.rejects(load(code), /^Error: the module is not mldsa.wasm of version 0\.2\.0, or a later one with the same calls$/);
     for (const it of [undefined, ...others.map((found) => () => found)]) {
         said = it;
-        await assert.rejects(load(code), /^Error: the module is not mldsa.wasm of version 0\.2\.0, or a later one with the same calls$/);
+        await refused();
     }
+    // Older modules have places of 64 bits.
+    said = () => version;
+    changed = { __heap_base: new WebAssembly.Global({ value: "i64" }, 196608n) };
+    await refused();
 });
 
 test("what is no Uint8Array is refused", () => {
@@ -595,7 +601,7 @@ test("each call leaves the memory as it was at first", async (t) => {
     assert.ok(isClean());
     // The module itself leaves something.
     const base = __heap_base.value;
-    mldsa87_keygen(base, 32n, base + 64n, 2592n, base + 4096n, 4896n);
+    mldsa87_keygen(base, 32, base + 64, 2592, base + 4096, 4896);
     assert.ok(!isClean());
 });
 
@@ -604,10 +610,10 @@ test("each call leaves an eighth of the module's stack untouched", async () => {
     const base = exports.__heap_base.value;
     const memory = new Uint8Array(exports.memory.buffer);
     const size = memory.findIndex((byte) => byte !== 0); // constants follow the stack
-    assert.equal(size, 256 << 10);
-    const [seed, pk, sk, oid] = [[base, 32n], [base + 1024n, 2592n], [base + 4096n, 4896n], [base + 64n, 11n]];
-    const signature = [base + 10240n, 4627n];
-    memory.set(oids["SHA-256"], Number(oid[0]));
+    assert.equal(size, 192 << 10);
+    const [seed, pk, sk, oid] = [[base, 32], [base + 1024, 2592], [base + 4096, 4896], [base + 64, 11]];
+    const signature = [base + 10240, 4627];
+    memory.set(oids["SHA-256"], oid[0]);
     const calls = { keygen: [seed, pk, sk], hash_sign: [sk, seed, seed, oid, seed, signature], hash_verify: [pk, seed, seed, oid, signature], public_key: [sk, pk], is_whole: [sk] };
     for (const [name, words] of Object.entries(calls)) {
         memory.fill(0xa5, 0, size);
@@ -771,7 +777,7 @@ test("where WebAssembly lacks something loading says so", async (t) => {
     assert.equal(isSupported(), true);
     t.mock.method(WebAssembly, "validate", () => false);
     assert.equal(isSupported(), false);
-    await assert.rejects(load(code), /lacks BigInt, or the bulk memory or sign extension of WebAssembly/);
+    await assert.rejects(load(code), /lacks the vectors \(SIMD\), bulk memory or sign extension of WebAssembly/);
 });
 
 test("isSupported asks for what the module needs", (t) => {
@@ -783,8 +789,10 @@ test("isSupported asks for what the module needs", (t) => {
     const used = new Set([...said.stdout.matchAll(/\| +([a-z]\w+(?:\.\w+)*)(?!\w*\[)/g)].map(([, name]) => name));
     const first = /^(block|loop|if|else|end|br|br_if|br_table|return|call|call_indirect|drop|select|unreachable|nop|(local|global)\.\w+|memory\.(size|grow)|[if](32|64)\.\w+)$/;
     const later = [...used].filter((name) => !first.test(name) || /_sat_|extend(8|16|32)_s$/.test(name));
-    // What it needs beside the first version of WebAssembly is of the two groups of which the probe has one instruction each.
-    assert.deepEqual(later.filter((name) => !/^memory\.(copy|fill)$|^i(32|64)\.extend(8|16|32)_s$/.test(name)), []);
+    // What it needs beside the first version of WebAssembly is of the three groups of which the probe has one instruction each.
+    const groups = [/^memory\.(copy|fill)$/, /^i(32|64)\.extend(8|16|32)_s$/, /^(v128|i8x16|i16x8|i32x4|i64x2)\.\w+$/];
+    assert.deepEqual(later.filter((name) => !groups.some((group) => group.test(name))), []);
+    assert.ok(groups.every((group) => later.some((name) => group.test(name))));
     assert.ok(used.size > 50);
 });
 

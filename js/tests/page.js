@@ -239,7 +239,7 @@ async function thePageWithout() {
     await browser.open("/dev/null");
     await browser.send("Page.addScriptToEvaluateOnNewDocument", { source: "WebAssembly.validate = () => false;" });
     await browser.reload(join(out, "verify.html"));
-    await answers(browser, "without bulk memory", "unknown", /lacks BigInt, or its WebAssembly bulk memory or sign extension.*Nothing was checked/);
+    await answers(browser, "without bulk memory", "unknown", /lacks the vectors \(SIMD\), bulk memory or sign extension of WebAssembly.*Nothing was checked/);
     await browser.close();
 }
 

@@ -1,4 +1,5 @@
-//! How the shared library is linked on Linux: under the name that programs look for, and without code to start or to debug it.
+//! How the shared library is linked on Linux: under the name that programs look for, and without code to start or to debug it; and
+//! how much stack the module for WebAssembly has.
 
 use std::env::var;
 
@@ -19,5 +20,9 @@ fn main() {
         ] {
             println!("cargo::rustc-cdylib-link-arg={word}");
         }
+    }
+    if var("CARGO_CFG_TARGET_ARCH").unwrap() == "wasm32" {
+        // (a call uses at most 154,800 of these bytes; the tests of js/ ask that an eighth stays free)
+        println!("cargo::rustc-cdylib-link-arg=-zstack-size=196608");
     }
 }

@@ -54,10 +54,13 @@ macro_rules! export {
 
 include!("exports.rs");
 
+#[cfg(not(target_arch = "wasm32"))]
 #[link(name = "c")]
 unsafe extern "C" {
     safe fn abort() -> !;
 }
+#[cfg(target_arch = "wasm32")]
+use core::arch::wasm32::unreachable as abort;
 
 /// The source is proved to reach no panic. If the code did, the process would end.
 #[panic_handler]

@@ -1,5 +1,5 @@
-//! The choice of code for SSE4.2, for AVX2 and for AVX-512 when the program runs. What is unsafe of this package stands here, and
-//! where `simd.rs` makes a vector of bytes.
+//! The choice of code for SSE4.2, for AVX2 and for AVX-512 when the program runs. What is unsafe of this package stands here,
+//! where `simd.rs` makes a vector of bytes, and for WebAssembly in `simd/wasm32.rs`.
 #![allow(unsafe_code)]
 
 #[cfg(target_arch = "x86_64")]

@@ -42,6 +42,10 @@ mod set;
 pub mod sha2_arrays;
 #[cfg(any(feature = "signature", feature = "signature-3", feature = "pkcs8"))]
 mod signatures;
+#[cfg_attr(
+    all(target_arch = "wasm32", target_feature = "simd128"),
+    path = "simd/wasm32.rs"
+)]
 mod simd;
 pub mod traits;
 mod wiped;
