@@ -18,8 +18,7 @@ LENGTHS = {"44": (1312, 2560, 2420), "65": (1952, 4032, 3309), "87": (2592, 4896
 NATIVE = "aarch64" if platform.machine() in ("aarch64", "arm64") else "x86-64"
 # Manifests of cargo that name the project's page and its repository.
 MANIFESTS = ("rust/fips204/Cargo.toml", "rust/mlsign/Cargo.toml", "rust/capi/Cargo.toml")
-# The processors that qemu emulates here, each with qemu's name, the name of Debian's tools, Rust's, and the loader of its
-# programs.
+# The processors that qemu emulates here: qemu's name, that of Debian's tools, Rust's, and the loader of its programs.
 EMULATED = {
     "aarch64": ("aarch64", "aarch64-linux-gnu", "aarch64-unknown-linux-gnu", "/lib/ld-linux-aarch64.so.1"),
     "armv7": ("arm", "arm-linux-gnueabihf", "armv7-unknown-linux-gnueabihf", "/lib/ld-linux-armhf.so.3"),
