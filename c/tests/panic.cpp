@@ -11,7 +11,7 @@ int main()
 {
     static const uint8_t bytes[1] = {0};
     std::setvbuf(stdout, nullptr, _IONBF, 0);
-    std::printf("%u\n", static_cast<unsigned>(mldsa_check_pre_hash(bytes, 1, bytes, 1)));
+    std::puts(mldsa_check_pre_hash(bytes, 1, bytes, 1) == MLDSA_OID_NOT_DER ? "not DER" : "another result");
     try {
         Frame frame;
         std::printf("%u\n", static_cast<unsigned>(mldsa_check_pre_hash(bytes, 0, bytes, 1)));
