@@ -544,6 +544,9 @@ macro_rules! parameter_set {
         /// A public key, which is wiped when it is dropped.
         pub type PublicKey = set::PublicKey<PK_LEN, SK_LEN, SIG_LEN>;
 
+        /// The seed of a pair, which is wiped when it is dropped.
+        pub type Seed = crate::Seed<PK_LEN, SK_LEN, SIG_LEN>;
+
         /// A signature, for the traits of `signature` and `spki`; all other calls take and return its array.
         #[cfg(any(feature = "signature", feature = "signature-3", feature = "pkcs8"))]
         pub type Signature = crate::signatures::Signature<SIG_LEN>;
