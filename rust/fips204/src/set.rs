@@ -559,7 +559,8 @@ macro_rules! parameter_set {
         #[derive(Debug)]
         pub struct KG();
 
-        /// Makes a key pair from 32 bytes of the operating system's generator. Takes [`stack::KEYGEN`] bytes of stack.
+        /// Makes a key pair from 32 bytes of the operating system's generator. To store the pair, draw a [`Seed`] instead. Takes
+        /// [`stack::KEYGEN`] bytes of stack.
         ///
         /// # Errors
         /// The generator failed.
@@ -577,7 +578,8 @@ macro_rules! parameter_set {
             KG::try_keygen()
         }
 
-        /// Makes a key pair from 32 bytes of a generator, which is asked once. Takes [`stack::KEYGEN`] bytes of stack.
+        /// Makes a key pair from 32 bytes of a generator, which is asked once. To store the pair, draw a [`Seed`] instead. Takes
+        /// [`stack::KEYGEN`] bytes of stack.
         ///
         /// # Errors
         /// The generator failed.
