@@ -29,7 +29,10 @@ macro_rules! tests_of_a_set {
                     assert_eq!(refused.to_string(), "an array has the wrong length");
                 }
                 let refused = PrivateKey::try_from(&[0xFF; SK_LEN][..]).unwrap_err();
-                assert_eq!(refused.to_string(), "the private key is damaged: s1 or s2 is out of range");
+                assert_eq!(
+                    refused.to_string(),
+                    "the private key is damaged: s1 or s2 is out of range"
+                );
             }
 
             /// Public keys are equal, and hash alike, if they have the same bytes.

@@ -133,7 +133,10 @@ macro_rules! of_set {
                         assert!(key.try_sign_with_seed(&[3; 32], b"one", b"").is_ok());
                     }
                     for number in [2 * $eta + 1, (1 << width) - 1] {
-                        assert_eq!(with(n, number).err(), Some("the private key is damaged: s1 or s2 is out of range"));
+                        assert_eq!(
+                            with(n, number).err(),
+                            Some("the private key is damaged: s1 or s2 is out of range")
+                        );
                     }
                 }
             }

@@ -136,7 +136,10 @@ fn refusals() {
         "ML-DSA.Sign: ctx too long"
     );
     private[128] = 0xFF;
-    assert_eq!(text(&private, INPUT), "the private key is damaged: s1 or s2 is out of range");
+    assert_eq!(
+        text(&private, INPUT),
+        "the private key is damaged: s1 or s2 is out of range"
+    );
     let short = MlDsa44::<Sum, Sum>::verify(&public, &INPUT, &signature[1..]);
     assert_eq!(short, Err(Refusal::Length(Buffer::Signature)));
     assert_eq!(

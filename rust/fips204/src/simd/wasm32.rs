@@ -1,5 +1,5 @@
 //! The types of `simd.rs` over the vectors of WebAssembly, with what the crate uses of them. Of arrays the compiler makes products
-//! of lanes of 64 bits, which take a processor four times as long as those of lanes of 32 bits that become 64.
+//! of lanes of 64 bits, which take a processor many more instructions than those of lanes of 32 bits.
 // (the names are those of `std::simd`)
 #![allow(non_camel_case_types)]
 #![allow(unsafe_code)]
