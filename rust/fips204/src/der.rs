@@ -191,11 +191,12 @@ where
         written(seed, der::seed_to_der(Self::SET, seed, der))
     }
 
-    /// Writes the seed and the expanded key that it generates as a OneAsymmetricKey in DER, of `BOTH_DER_LEN` bytes.
+    /// Writes the seed and the expanded key that it generates as a OneAsymmetricKey in DER, of `BOTH_DER_LEN` bytes. Python's
+    /// cryptography does not read this form.
     /// Takes `stack::DER` bytes of stack.
     ///
     /// # Errors
-    /// `der` has another length, or the seed was wiped.
+    /// `der` has another length; the seed was wiped; or rejection sampling reached its limit, for which no seed is known.
     ///
     /// ```
     /// # #[cfg(feature = "ml-dsa-65-bare")] {

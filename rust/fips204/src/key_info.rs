@@ -1,5 +1,5 @@
-//! The traits of the crates `pkcs8` 0.11 and `spki` 0.8. They read what `from_der` reads, and write what `write_der` of a public key or
-//! of a seed writes.
+//! The traits of the crates `pkcs8` 0.11 and `spki` 0.8. They read what `from_der` reads, and write what `write_der` of a public key
+//! or of a seed writes.
 #![allow(unused_macros, unused_imports)] // no set may be chosen
 
 use crate::Error;
