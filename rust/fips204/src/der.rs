@@ -4,11 +4,9 @@
 use crate::Error;
 use crate::error::WIPED;
 use crate::proved::mldsa_c::{der, texts::text_of};
+use crate::seed::Seed;
 use crate::set::{Named, PrivateKey, PublicKey, Set};
 use crate::wiped::{Wiped, held};
-
-/// How many bytes the DER of a seed has, at every set.
-const SEED_DER_LEN: usize = 54;
 
 /// The value if a call is done, and otherwise the text of its status.
 fn answer<T>(status: u32, value: T) -> Result<T, Error> {
@@ -88,9 +86,6 @@ where
     /// How many bytes the key's DER has.
     pub const DER_LEN: usize = SK + 28;
 
-    /// How many bytes the DER of a seed and its key has.
-    pub const BOTH_DER_LEN: usize = SK + 66;
-
     /// Reads the key of a OneAsymmetricKey (PKCS #8) in DER (RFC 9881, section 6), which is not encrypted and has a seed,
     /// an expanded key, or both.
     /// Takes `stack::DER` bytes of stack.
@@ -117,51 +112,8 @@ where
         answer(status, key)
     }
 
-    /// Reads the seed of a private key in DER; `keygen_from_seed` makes the key from it.
-    /// Takes `stack::DER` bytes of stack.
-    ///
-    /// # Errors
-    /// Those of `from_der`; or it has no seed.
-    ///
-    /// ```
-    /// # #[cfg(feature = "ml-dsa-65-bare")] {
-    /// use fips204::ml_dsa_65::PrivateKey;
-    ///
-    /// let seed = [7; 32]; // a seed is secret, and random
-    /// let der = PrivateKey::seed_to_der(&seed)?;
-    /// assert_eq!(PrivateKey::seed_from_der(&der), Ok(seed));
-    /// # }
-    /// # Ok::<(), &'static str>(())
-    /// ```
-    pub fn seed_from_der(der: &[u8]) -> Result<[u8; 32], Error> {
-        let mut seed = [0; 32];
-        let status = der::seed_from_der(Self::SET, der, &mut seed);
-        answer(status, seed)
-    }
-
-    /// A private key in DER, as its seed. That is all you have to store.
-    /// Takes `stack::DER` bytes of stack.
-    ///
-    /// # Errors
-    /// None is known.
-    ///
-    /// ```
-    /// # #[cfg(feature = "ml-dsa-65-bare")] {
-    /// use fips204::ml_dsa_65::PrivateKey;
-    ///
-    /// let seed = [7; 32]; // a seed is secret, and random
-    /// let der = PrivateKey::seed_to_der(&seed)?;
-    /// assert_eq!(PrivateKey::seed_from_der(&der), Ok(seed));
-    /// # }
-    /// # Ok::<(), &'static str>(())
-    /// ```
-    pub fn seed_to_der(seed: &[u8; 32]) -> Result<[u8; SEED_DER_LEN], Error> {
-        let mut der = [0; SEED_DER_LEN];
-        let status = der::seed_to_der(Self::SET, seed, &mut der);
-        answer(status, der)
-    }
-
-    /// Writes the key as a OneAsymmetricKey in DER, as its expanded key, of `DER_LEN` bytes.
+    /// Writes the key as a OneAsymmetricKey in DER, as its expanded key, of `DER_LEN` bytes. `mlsign` and OpenSSL read this form, but
+    /// RustCrypto, Python's cryptography and WebCrypto do not: store a [`Seed`](crate::Seed), which all of them read.
     /// Takes `stack::DER` bytes of stack.
     ///
     /// # Errors
@@ -183,26 +135,82 @@ where
         let key = self.0.given();
         written(key, der::private_key_to_der(Self::SET, key, der))
     }
+}
 
-    /// Writes a private key in DER, as its seed and the expanded key that the seed generates, of `BOTH_DER_LEN` bytes.
+impl<const PK: usize, const SK: usize, const SIG: usize> Seed<PK, SK, SIG>
+where
+    Set<PK, SK, SIG>: Named,
+{
+    /// How many bytes the seed's DER has.
+    pub const DER_LEN: usize = 54;
+
+    /// How many bytes the DER of the seed and its expanded key has.
+    pub const BOTH_DER_LEN: usize = SK + 66;
+
+    /// Reads the seed of a OneAsymmetricKey (PKCS #8) in DER (RFC 9881, section 6), which is not encrypted and has a seed, alone or
+    /// with its expanded key.
     /// Takes `stack::DER` bytes of stack.
     ///
     /// # Errors
-    /// `der` has another length.
+    /// Those of `from_der` of a private key; or it has no seed.
     ///
     /// ```
     /// # #[cfg(feature = "ml-dsa-65-bare")] {
-    /// use fips204::ml_dsa_65::PrivateKey;
+    /// use fips204::ml_dsa_65::Seed;
     ///
-    /// let seed = [7; 32]; // a seed is secret, and random
-    /// let mut der = [0; PrivateKey::BOTH_DER_LEN];
-    /// PrivateKey::write_both_der(&seed, &mut der)?;
-    /// assert_eq!(PrivateKey::seed_from_der(&der), Ok(seed));
+    /// let mut der = [0; Seed::DER_LEN];
+    /// Seed::from_bytes(&[7; 32]).write_der(&mut der)?; // a seed is secret, and random
+    /// assert_eq!(Seed::from_der(&der)?.as_bytes(), &[7; 32]);
     /// # }
-    /// # Ok::<(), &'static str>(())
+    /// # Ok::<(), fips204::Error>(())
     /// ```
-    pub fn write_both_der(seed: &[u8; 32], der: &mut [u8]) -> Result<(), Error> {
-        answer(der::both_to_der(Self::SET, seed, der), ())
+    pub fn from_der(der: &[u8]) -> Result<Self, Error> {
+        let mut seed = Seed(held());
+        let status = der::seed_from_der(Self::SET, der, seed.0.array_mut());
+        answer(status, seed)
+    }
+
+    /// Writes the seed as a OneAsymmetricKey in DER, of `DER_LEN` bytes. They are yours to wipe.
+    /// Takes `stack::DER` bytes of stack.
+    ///
+    /// # Errors
+    /// `der` has another length, or the seed was wiped.
+    ///
+    /// ```
+    /// # #[cfg(feature = "ml-dsa-65-bare")] {
+    /// use fips204::ml_dsa_65::Seed;
+    ///
+    /// let mut der = [0; Seed::DER_LEN];
+    /// Seed::from_bytes(&[7; 32]).write_der(&mut der)?; // a seed is secret, and random
+    /// assert_eq!(Seed::from_der(&der)?.as_bytes(), &[7; 32]);
+    /// # }
+    /// # Ok::<(), fips204::Error>(())
+    /// ```
+    pub fn write_der(&self, der: &mut [u8]) -> Result<(), Error> {
+        let seed = self.0.given();
+        written(seed, der::seed_to_der(Self::SET, seed, der))
+    }
+
+    /// Writes the seed and the expanded key that it generates as a OneAsymmetricKey in DER, of `BOTH_DER_LEN` bytes. Python's
+    /// cryptography does not read this form.
+    /// Takes `stack::DER` bytes of stack.
+    ///
+    /// # Errors
+    /// `der` has another length; the seed was wiped; or rejection sampling reached its limit, for which no seed is known.
+    ///
+    /// ```
+    /// # #[cfg(feature = "ml-dsa-65-bare")] {
+    /// use fips204::ml_dsa_65::Seed;
+    ///
+    /// let mut der = [0; Seed::BOTH_DER_LEN];
+    /// Seed::from_bytes(&[7; 32]).write_both_der(&mut der)?; // a seed is secret, and random
+    /// assert_eq!(Seed::from_der(&der)?.as_bytes(), &[7; 32]);
+    /// # }
+    /// # Ok::<(), fips204::Error>(())
+    /// ```
+    pub fn write_both_der(&self, der: &mut [u8]) -> Result<(), Error> {
+        let seed = self.0.given();
+        written(seed, der::both_to_der(Self::SET, seed, der))
     }
 }
 
@@ -210,9 +218,9 @@ where
 /// write it.
 #[cfg(feature = "alloc")]
 mod pem {
-    use super::{Error, Named, PrivateKey, PublicKey, SEED_DER_LEN, Set};
+    use super::{Error, Named, PrivateKey, PublicKey, Seed, Set};
     use crate::proved::fips204_shake::pem::{Kind, PemFault, read, write, written_length};
-    use crate::wiped::{Wiped, WipedVec};
+    use crate::wiped::WipedVec;
     use alloc::string::String;
     use alloc::vec;
 
@@ -327,54 +335,9 @@ mod pem {
             Self::from_der(&decode(Kind::Private, text)?.0)
         }
 
-        /// Reads the seed of a private key in PEM; `keygen_from_seed` makes the key from it.
-        /// Takes `stack::DER` bytes of stack.
-        ///
-        /// # Errors
-        /// Those of `from_pem`; or it has no seed.
-        ///
-        /// ```
-        /// # #[cfg(all(feature = "ml-dsa-65-bare", feature = "alloc"))] {
-        /// use fips204::ml_dsa_65::PrivateKey;
-        ///
-        /// let seed = [7; 32]; // a seed is secret, and random
-        /// let text = PrivateKey::seed_to_pem(&seed)?;
-        /// assert_eq!(PrivateKey::seed_from_pem(&text), Ok(seed));
-        /// # }
-        /// # Ok::<(), &'static str>(())
-        /// ```
-        pub fn seed_from_pem(text: &str) -> Result<[u8; 32], Error> {
-            Self::seed_from_der(&decode(Kind::Private, text)?.0)
-        }
-
-        /// The text of a private key's file, as its seed, not encrypted. It is yours to wipe.
-        /// Takes `stack::DER` bytes of stack.
-        ///
-        /// # Errors
-        /// None is known.
-        ///
-        /// ```
-        /// # #[cfg(all(feature = "ml-dsa-65-bare", feature = "alloc"))] {
-        /// use fips204::ml_dsa_65::{KG, PrivateKey};
-        /// use fips204::traits::{KeyGen, SerDes};
-        ///
-        /// let seed = [7; 32]; // a seed is secret, and random
-        /// let (_, private) = KG::keygen_from_seed(&seed);
-        /// let text = PrivateKey::seed_to_pem(&seed)?;
-        /// assert_eq!(PrivateKey::from_pem(&text)?.into_bytes(), private.into_bytes());
-        /// # }
-        /// # Ok::<(), &'static str>(())
-        /// ```
-        pub fn seed_to_pem(seed: &[u8; 32]) -> Result<String, Error> {
-            let mut der = Wiped::<SEED_DER_LEN>::zeros();
-            super::answer(
-                super::der::seed_to_der(Self::SET, seed, der.array_mut()),
-                (),
-            )?;
-            Ok(encode(Kind::Private, der.array()))
-        }
-
-        /// The text of the key's file, as its expanded key, not encrypted. It is yours to wipe.
+        /// The text of the key's file, as its expanded key, not encrypted. `mlsign` and OpenSSL read this form, but RustCrypto,
+        /// Python's cryptography and WebCrypto do not: store a [`Seed`](crate::Seed), which all of them read. The text is yours to
+        /// wipe.
         /// Takes `stack::DER` bytes of stack.
         ///
         /// # Errors
@@ -390,6 +353,52 @@ mod pem {
         /// assert_eq!(PrivateKey::from_pem(&text)?.into_bytes(), private.into_bytes());
         /// # }
         /// # Ok::<(), &'static str>(())
+        /// ```
+        pub fn to_pem(&self) -> Result<String, Error> {
+            let mut der = WipedVec(vec![0; Self::DER_LEN]);
+            self.write_der(&mut der.0)?;
+            Ok(encode(Kind::Private, &der.0))
+        }
+    }
+
+    impl<const PK: usize, const SK: usize, const SIG: usize> Seed<PK, SK, SIG>
+    where
+        Set<PK, SK, SIG>: Named,
+    {
+        /// Reads the seed of a private key's file in PEM, as `from_pem` of a private key reads it.
+        /// Takes `stack::DER` bytes of stack.
+        ///
+        /// # Errors
+        /// Those of `from_pem` of a private key; or it has no seed.
+        ///
+        /// ```
+        /// # #[cfg(all(feature = "ml-dsa-65-bare", feature = "alloc"))] {
+        /// use fips204::ml_dsa_65::Seed;
+        ///
+        /// let text = Seed::from_bytes(&[7; 32]).to_pem()?; // a seed is secret, and random
+        /// assert_eq!(Seed::from_pem(&text)?.as_bytes(), &[7; 32]);
+        /// # }
+        /// # Ok::<(), fips204::Error>(())
+        /// ```
+        pub fn from_pem(text: &str) -> Result<Self, Error> {
+            Self::from_der(&decode(Kind::Private, text)?.0)
+        }
+
+        /// The text of a private key's file, as its seed, not encrypted. It is yours to wipe.
+        /// Takes `stack::DER` bytes of stack.
+        ///
+        /// # Errors
+        /// The seed was wiped.
+        ///
+        /// ```
+        /// # #[cfg(all(feature = "ml-dsa-65-bare", feature = "alloc"))] {
+        /// use fips204::ml_dsa_65::{PrivateKey, Seed};
+        ///
+        /// let seed = Seed::from_bytes(&[7; 32]); // a seed is secret, and random
+        /// let private = PrivateKey::from_pem(&seed.to_pem()?)?;
+        /// assert_eq!(private.as_bytes(), seed.keygen()?.1.as_bytes());
+        /// # }
+        /// # Ok::<(), fips204::Error>(())
         /// ```
         pub fn to_pem(&self) -> Result<String, Error> {
             let mut der = WipedVec(vec![0; Self::DER_LEN]);

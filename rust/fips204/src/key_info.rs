@@ -1,18 +1,21 @@
 //! The traits of the crates `pkcs8` 0.11 and `spki` 0.8. They read what `from_der` reads, and write what `write_der` of a public key
-//! writes.
+//! or of a seed writes.
 #![allow(unused_macros, unused_imports)] // no set may be chosen
 
+use crate::Error;
 use crate::proved::fips204_shake::bytes::SetName;
+use crate::seed::Seed;
 use crate::set::{Named, PrivateKey, PublicKey, Set};
 use crate::signatures::Signature;
+use crate::wiped::WipedVec;
 use pkcs8::der::{self, AnyRef, asn1::BitString};
 use pkcs8::spki::{
     self, AlgorithmIdentifier, AssociatedAlgorithmIdentifier, SignatureAlgorithmIdentifier,
     SignatureBitStringEncoding,
 };
 use pkcs8::{
-    AlgorithmIdentifierRef, Document, EncodePublicKey, KeyError, ObjectIdentifier,
-    PrivateKeyInfoRef, SecretDocument, SubjectPublicKeyInfoRef,
+    AlgorithmIdentifierRef, Document, EncodePrivateKey, EncodePublicKey, KeyError,
+    ObjectIdentifier, PrivateKeyInfoRef, SecretDocument, SubjectPublicKeyInfoRef,
 };
 
 /// The identifier of a set (RFC 9881, section 2), which has no parameters.
@@ -28,6 +31,18 @@ const fn identifier(set: SetName) -> AlgorithmIdentifierRef<'static> {
     }
 }
 
+/// The key of a private key's DER, by its `from_der`. A key of another set is an unknown algorithm.
+fn read<K>(
+    set: SetName,
+    info: &PrivateKeyInfoRef<'_>,
+    from_der: impl FnOnce(&[u8]) -> Result<K, Error>,
+) -> pkcs8::Result<K> {
+    info.algorithm.assert_algorithm_oid(identifier(set).oid)?;
+    // (wiped when it is dropped)
+    let der = SecretDocument::encode_msg(info)?;
+    from_der(der.as_bytes()).map_err(|_| KeyError::Invalid.into())
+}
+
 /// Reads what `from_der` reads. A key of another set is an unknown algorithm.
 impl<const PK: usize, const SK: usize, const SIG: usize> TryFrom<PrivateKeyInfoRef<'_>>
     for PrivateKey<PK, SK, SIG>
@@ -36,12 +51,33 @@ where
 {
     type Error = pkcs8::Error;
 
-    fn try_from(info: PrivateKeyInfoRef<'_>) -> Result<Self, pkcs8::Error> {
-        info.algorithm
-            .assert_algorithm_oid(identifier(Self::SET).oid)?;
-        // (wiped when it is dropped)
-        let der = SecretDocument::encode_msg(&info)?;
-        Self::from_der(der.as_bytes()).map_err(|_| KeyError::Invalid.into())
+    fn try_from(info: PrivateKeyInfoRef<'_>) -> pkcs8::Result<Self> {
+        read(Self::SET, &info, Self::from_der)
+    }
+}
+
+/// Reads what `from_der` reads. A key of another set is an unknown algorithm, and one without its seed is invalid.
+impl<const PK: usize, const SK: usize, const SIG: usize> TryFrom<PrivateKeyInfoRef<'_>>
+    for Seed<PK, SK, SIG>
+where
+    Set<PK, SK, SIG>: Named,
+{
+    type Error = pkcs8::Error;
+
+    fn try_from(info: PrivateKeyInfoRef<'_>) -> pkcs8::Result<Self> {
+        read(Self::SET, &info, Self::from_der)
+    }
+}
+
+/// Writes what `write_der` writes. A seed that was wiped is invalid.
+impl<const PK: usize, const SK: usize, const SIG: usize> EncodePrivateKey for Seed<PK, SK, SIG>
+where
+    Set<PK, SK, SIG>: Named,
+{
+    fn to_pkcs8_der(&self) -> pkcs8::Result<SecretDocument> {
+        let mut der = WipedVec(alloc::vec![0; Self::DER_LEN]);
+        self.write_der(&mut der.0).map_err(|_| KeyError::Invalid)?;
+        Ok(SecretDocument::try_from(&der.0[..])?)
     }
 }
 

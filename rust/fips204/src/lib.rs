@@ -36,6 +36,7 @@ pub mod proved;
 pub mod proved_for_tests;
 #[cfg(feature = "rand_core")]
 mod rng;
+mod seed;
 mod set;
 #[cfg(feature = "sha2")]
 #[doc(hidden)] // for tests of the repository
@@ -66,6 +67,7 @@ pub use rand_core::{CryptoRng, Error as RngError, RngCore};
 pub use rng::FillRng;
 #[cfg(feature = "rand_core-0_10")]
 pub use rng::of_rand_core_0_10;
+pub use seed::Seed;
 pub use set::{PrivateKey, PublicKey};
 
 /// How many bytes of stack the calls of a [`MessageHasher`] take at most, and those that begin one.

@@ -3,6 +3,7 @@
 use crate::proved::fips204_shake::bytes::Fault;
 use crate::wiped::Wiped;
 use crate::{CryptoRng, RngCore, RngError};
+use core::borrow::BorrowMut;
 use core::num::NonZeroU32;
 
 /// A generator that is one function, for a source of random bytes that has no type of `rand_core`. The function fills a slice and
@@ -98,7 +99,7 @@ pub(crate) fn fixed(seed: &[u8; 32]) -> impl RngCore + CryptoRng {
 /// Draws 32 bytes of a generator into their place, from which they are not moved; an error is the text of the fault.
 pub(crate) fn draw(
     rng: &mut (impl RngCore + CryptoRng),
-    bytes: &mut Wiped<32>,
+    bytes: &mut Wiped<32, impl BorrowMut<[u8; 32]>>,
     fault: Fault,
 ) -> Result<(), &'static str> {
     rng.try_fill_bytes(bytes.array_mut())

@@ -544,6 +544,9 @@ macro_rules! parameter_set {
         /// A public key, which is wiped when it is dropped.
         pub type PublicKey = set::PublicKey<PK_LEN, SK_LEN, SIG_LEN>;
 
+        /// The seed of a pair, which is wiped when it is dropped.
+        pub type Seed = crate::Seed<PK_LEN, SK_LEN, SIG_LEN>;
+
         /// A signature, for the traits of `signature` and `spki`; all other calls take and return its array.
         #[cfg(any(feature = "signature", feature = "signature-3", feature = "pkcs8"))]
         pub type Signature = crate::signatures::Signature<SIG_LEN>;
@@ -556,7 +559,8 @@ macro_rules! parameter_set {
         #[derive(Debug)]
         pub struct KG();
 
-        /// Makes a key pair from 32 bytes of the operating system's generator. Takes [`stack::KEYGEN`] bytes of stack.
+        /// Makes a key pair from 32 bytes of the operating system's generator. To store the pair, draw a [`Seed`] instead. Takes
+        /// [`stack::KEYGEN`] bytes of stack.
         ///
         /// # Errors
         /// The generator failed.
@@ -574,7 +578,8 @@ macro_rules! parameter_set {
             KG::try_keygen()
         }
 
-        /// Makes a key pair from 32 bytes of a generator, which is asked once. Takes [`stack::KEYGEN`] bytes of stack.
+        /// Makes a key pair from 32 bytes of a generator, which is asked once. To store the pair, draw a [`Seed`] instead. Takes
+        /// [`stack::KEYGEN`] bytes of stack.
         ///
         /// # Errors
         /// The generator failed.

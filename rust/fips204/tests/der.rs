@@ -10,16 +10,16 @@
 macro_rules! tests_of_a_set {
     ($set:ident, $other:ident, $public:literal, $private:literal, $expanded:literal) => {
         mod $set {
-            use fips204::traits::{KeyGen, SerDes};
-            use fips204::$set::{KG, PrivateKey, PublicKey};
+            use fips204::traits::SerDes;
+            use fips204::$set::{PrivateKey, PublicKey, Seed};
 
-            fn seed() -> [u8; 32] {
-                std::array::from_fn(|i| i as u8)
+            fn seed() -> Seed {
+                Seed::from_bytes(&std::array::from_fn(|i| i as u8))
             }
 
             #[test]
             fn files_of_openssl() {
-                let (public, private) = KG::keygen_from_seed(&seed());
+                let (public, private) = seed().keygen().unwrap();
                 let lines = |text: &String| {
                     let lines: Vec<_> = text.lines().map(String::from).collect();
                     assert!(lines.iter().rev().skip(2).all(|it| it.len() <= 64));
@@ -29,7 +29,7 @@ macro_rules! tests_of_a_set {
                         lines[lines.len() - 1].clone(),
                     ]
                 };
-                let seed_pem = PrivateKey::seed_to_pem(&seed()).unwrap();
+                let seed_pem = seed().to_pem().unwrap();
                 assert_eq!(seed_pem, $private);
                 let public_pem = public.to_pem().unwrap();
                 assert_eq!(
@@ -49,26 +49,35 @@ macro_rules! tests_of_a_set {
                 assert_eq!(lines(&private_pem), wanted);
                 let read = PublicKey::from_pem(&public_pem).unwrap();
                 assert_eq!(read.into_bytes(), public.into_bytes());
-                assert_eq!(PrivateKey::seed_from_pem(&seed_pem), Ok(seed()));
-                assert!(PrivateKey::seed_from_pem(&private_pem).is_err());
                 let bytes = private.into_bytes();
                 for text in [
                     seed_pem.clone(),
-                    private_pem,
+                    private_pem.clone(),
                     seed_pem.replace('\n', "\r\n"),
                 ] {
                     assert_eq!(PrivateKey::from_pem(&text).unwrap().into_bytes(), bytes);
+                    match Seed::from_pem(&text) {
+                        Ok(read) => assert_eq!(read.as_bytes(), seed().as_bytes()),
+                        Err(refused) => {
+                            let no_seed =
+                                "it has no seed: an expanded key does not reveal its seed";
+                            assert_eq!((refused.as_str(), &text), (no_seed, &private_pem));
+                        }
+                    }
                 }
+                let another = "it has a key of another kind, or something else than a key";
+                assert_eq!(Seed::from_pem(&public_pem).unwrap_err().as_str(), another);
                 for wrong in ["", "x", &public_pem, &seed_pem[1..], &seed_pem[..60]] {
                     assert!(PrivateKey::from_pem(wrong).is_err());
+                    assert!(Seed::from_pem(wrong).is_err());
                 }
             }
 
             #[test]
             fn files_as_people_paste_them() {
-                let (public, _) = KG::keygen_from_seed(&seed());
+                let (public, _) = seed().keygen().unwrap();
                 let pem = public.to_pem().unwrap();
-                let seed_pem = PrivateKey::seed_to_pem(&seed()).unwrap();
+                let seed_pem = seed().to_pem().unwrap();
                 let lines = |end: &str| pem.lines().collect::<Vec<_>>().join(end);
                 for text in [
                     lines("\n"),
@@ -96,31 +105,8 @@ macro_rules! tests_of_a_set {
             }
 
             #[test]
-            fn both_parts() {
-                let (_, private) = KG::keygen_from_seed(&seed());
-                let mut der = vec![0; PrivateKey::BOTH_DER_LEN];
-                PrivateKey::write_both_der(&seed(), &mut der).unwrap();
-                assert_eq!(PrivateKey::seed_from_der(&der), Ok(seed()));
-                assert_eq!(
-                    PrivateKey::from_der(&der).unwrap().into_bytes(),
-                    private.clone().into_bytes()
-                );
-                *der.last_mut().unwrap() ^= 1;
-                for said in [
-                    PrivateKey::seed_from_der(&der).err().map(|it| it.as_str()),
-                    PrivateKey::from_der(&der).err().map(|it| it.as_str()),
-                ] {
-                    assert_eq!(said, Some("the private key is not consistent"));
-                }
-                let mut expanded = vec![0; PrivateKey::DER_LEN];
-                private.write_der(&mut expanded).unwrap();
-                let no_seed = "it has no seed: an expanded key does not reveal its seed";
-                assert_eq!(PrivateKey::seed_from_der(&expanded), Err(no_seed.into()));
-            }
-
-            #[test]
             fn why_der_is_refused() {
-                let (public, _) = KG::keygen_from_seed(&seed());
+                let (public, _) = seed().keygen().unwrap();
                 let mut der = vec![0; PublicKey::DER_LEN];
                 public.write_der(&mut der).unwrap();
                 let short = public.write_der(&mut der[1..]).unwrap_err();

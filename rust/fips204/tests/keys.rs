@@ -9,7 +9,7 @@ macro_rules! tests_of_a_set {
         mod $set {
             use super::*;
             use fips204::traits::{KeyGen, SerDes, Signer};
-            use fips204::$set::{KG, PK_LEN, PrivateKey, PublicKey, SK_LEN, stack};
+            use fips204::$set::{KG, PK_LEN, PrivateKey, PublicKey, SK_LEN, Seed, stack};
 
             /// Slices of the right length are keys; others are rejected, and so are bytes that are no private key.
             #[test]
@@ -168,6 +168,13 @@ macro_rules! tests_of_a_set {
                 }
                 let (mu, seed) = ([1; 64], [0; 32]);
                 within(stack::KEYGEN, || drop(KG::keygen_from_seed(&seed)));
+                let of_pair = Seed::from_bytes(&seed);
+                within(stack::KEYGEN, || assert!(of_pair.keygen().is_ok()));
+                within(stack::DER, || {
+                    let mut der = [0; Seed::BOTH_DER_LEN];
+                    of_pair.write_both_der(&mut der).unwrap();
+                    assert!(Seed::from_der(&der).is_ok());
+                });
                 let (public, private) = KG::keygen_from_seed(&seed);
                 let signature = private.try_sign_mu_with_seed(&seed, &mu).unwrap();
                 within(stack::SIGN, || {
@@ -240,8 +247,9 @@ fn sent_and_shared() {
     is_shared::<fips204::MessageHasher>();
     #[cfg(feature = "ml-dsa-44-bare")]
     {
-        use fips204::ml_dsa_44::{PreparedPrivateKey, PreparedPublicKey, PrivateKey, PublicKey};
-        is_shared::<(PublicKey, PrivateKey)>();
+        use fips204::ml_dsa_44::{PreparedPrivateKey, PreparedPublicKey};
+        use fips204::ml_dsa_44::{PrivateKey, PublicKey, Seed};
+        is_shared::<(PublicKey, PrivateKey, Seed)>();
         is_shared::<(PreparedPublicKey, PreparedPrivateKey)>();
     }
 }

@@ -6,7 +6,7 @@ use fips204::traits::{KeyGen, SerDes};
 use fips204::{MlDsaParams, of_rand_core_0_10};
 use pkcs8::spki::{AssociatedAlgorithmIdentifier, SignatureAlgorithmIdentifier};
 use pkcs8::spki::{DynSignatureAlgorithmIdentifier, SignatureBitStringEncoding};
-use pkcs8::{DecodePrivateKey, DecodePublicKey, EncodePublicKey, Error, spki};
+use pkcs8::{DecodePrivateKey, DecodePublicKey, EncodePrivateKey, EncodePublicKey, Error, spki};
 use rand_core_0_10::{TryCryptoRng, TryRng};
 use signature_3::{Keypair, RandomizedSigner, SignatureEncoding, Signer, Verifier};
 
@@ -71,10 +71,12 @@ macro_rules! tests_of_a_set {
         #[test]
         fn $set() {
             use fips204::$set::*;
-            let (public, private) = KG::keygen_from_seed(&[7; 32]);
-            let seed = PrivateKey::seed_to_der(&[7; 32]).unwrap();
-            let mut both = [0; PrivateKey::BOTH_DER_LEN];
-            PrivateKey::write_both_der(&[7; 32], &mut both).unwrap();
+            let of_pair = Seed::from_bytes(&[7; 32]);
+            let (public, private) = of_pair.keygen().unwrap();
+            let mut seed = [0; Seed::DER_LEN];
+            of_pair.write_der(&mut seed).unwrap();
+            let mut both = [0; Seed::BOTH_DER_LEN];
+            of_pair.write_both_der(&mut both).unwrap();
             let mut expanded = [0; PrivateKey::DER_LEN];
             private.write_der(&mut expanded).unwrap();
             let plain =
@@ -84,6 +86,11 @@ macro_rules! tests_of_a_set {
                 assert_eq!(made, plain.unwrap());
                 let made = used::<PreparedPrivateKey, PreparedPublicKey, Signature>(der);
                 assert_eq!(made, plain.unwrap());
+            }
+            assert_eq!(of_pair.to_pkcs8_der().unwrap().as_bytes(), seed);
+            for der in [&seed[..], &both] {
+                let read = Seed::from_pkcs8_der(der).unwrap();
+                assert_eq!(read.as_bytes(), of_pair.as_bytes());
             }
             let identifier = private.signature_algorithm_identifier().unwrap();
             assert_eq!(identifier.oid.to_string(), $oid);
@@ -107,6 +114,22 @@ macro_rules! tests_of_a_set {
                 "{refused:?}"
             );
             assert!(PrivateKey::from_pkcs8_der(&seed[..53]).is_err());
+            for der in [&both[..], &expanded] {
+                let refused = Seed::from_pkcs8_der(der);
+                assert!(
+                    matches!(refused, Err(Error::KeyMalformed(_))),
+                    "{refused:?}"
+                );
+            }
+            seed[17] += 1;
+            let another = Seed::from_pkcs8_der(&seed);
+            assert!(
+                matches!(
+                    another,
+                    Err(Error::PublicKey(spki::Error::OidUnknown { .. }))
+                ),
+                "{another:?}"
+            );
 
             // A generator of rand_core 0.10 for the other calls.
             let mut rng = nines();

@@ -174,7 +174,7 @@ macro_rules! tests_of_a_set {
         mod $set {
             use super::{Draws, OF_BYTES, OF_FILE, Parts, changes, published, watched, with_seeds};
             use fips204::traits::{KeyGen, Signer, Verifier};
-            use fips204::$set::{KG, PK_LEN, PrivateKey, PublicKey, SIG_LEN};
+            use fips204::$set::{KG, PK_LEN, PrivateKey, PublicKey, SIG_LEN, Seed};
 
             const PLANTED: [&[u8]; 12] = [
                 b"\n",
@@ -203,9 +203,9 @@ macro_rules! tests_of_a_set {
                 if let Ok(read) = PublicKey::from_pem(&text) {
                     has_text(&text, &read.to_pem().unwrap());
                 }
-                if let Ok(seed) = PrivateKey::seed_from_pem(&text) {
-                    has_text(&text, &PrivateKey::seed_to_pem(&seed).unwrap());
-                    let (_, generated) = KG::keygen_from_seed(&seed);
+                if let Ok(seed) = Seed::from_pem(&text) {
+                    has_text(&text, &seed.to_pem().unwrap());
+                    let (_, generated) = seed.keygen().unwrap();
                     let read = PrivateKey::from_pem(&text).unwrap();
                     assert_eq!(read.as_bytes(), generated.as_bytes());
                 } else if let Ok(read) = PrivateKey::from_pem(&text) {
@@ -221,8 +221,8 @@ macro_rules! tests_of_a_set {
                     read.write_der(&mut again).unwrap();
                     assert_eq!(again, file);
                 }
-                if let Ok(seed) = PrivateKey::seed_from_der(file) {
-                    let (_, generated) = KG::keygen_from_seed(&seed);
+                if let Ok(seed) = Seed::from_der(file) {
+                    let (_, generated) = seed.keygen().unwrap();
                     let read = PrivateKey::from_der(file).unwrap();
                     assert_eq!(read.as_bytes(), generated.as_bytes());
                 }
@@ -240,7 +240,7 @@ macro_rules! tests_of_a_set {
                 let mut texts = vec![
                     public.to_pem().unwrap().into_bytes(),
                     private.to_pem().unwrap().into_bytes(),
-                    PrivateKey::seed_to_pem(&[7; 32]).unwrap().into_bytes(),
+                    Seed::from_bytes(&[7; 32]).to_pem().unwrap().into_bytes(),
                 ];
                 for (file, text) in published("pem", b"") {
                     watched(file.display(), || {

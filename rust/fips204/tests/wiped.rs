@@ -2,7 +2,7 @@
 
 #![cfg(all(feature = "ml-dsa-65-bare", feature = "default-rng"))]
 
-use fips204::ml_dsa_65::{KG, PrivateKey};
+use fips204::ml_dsa_65::{KG, PrivateKey, Seed};
 use fips204::traits::KeyGen;
 use std::alloc::{GlobalAlloc, Layout, System};
 use std::cell::Cell;
@@ -102,7 +102,9 @@ fn dropped_keys_leave_nothing() {
 fn pem_leaves_nothing() {
     let seed: [u8; 32] = std::array::from_fn(|i| i as u8);
     let of_seed = [part(&seed, 8), *b"CAkKCwwNDg8QERIT"];
-    let (count, text) = left(of_seed, || PrivateKey::seed_to_pem(&seed).unwrap());
+    let made = || drop(black_box(Seed::from_bytes(black_box(&seed)).clone()));
+    assert_eq!(left(of_seed, made).0, 0);
+    let (count, text) = left(of_seed, || Seed::from_bytes(&seed).to_pem().unwrap());
     assert_eq!((count, text.contains("CAkKCwwNDg8QERIT")), (0, true));
     let damaged = text.replace("HR4f", "HR4!");
     for file in [
@@ -112,7 +114,7 @@ fn pem_leaves_nothing() {
         &text[..90].into(),
     ] {
         assert_eq!(left(of_seed, || PrivateKey::from_pem(file)).0, 0);
-        assert_eq!(left(of_seed, || PrivateKey::seed_from_pem(file)).0, 0);
+        assert_eq!(left(of_seed, || drop(Seed::from_pem(file))).0, 0);
     }
 
     let (_, private) = KG::keygen_from_seed(&seed);

@@ -1,7 +1,7 @@
 //! Reads a private key, signs and verifies, by code that knows of no scheme: over ml-dsa 0.1, over keys of this library, and over prepared
 //! ones. All write the same public key and the same signature.
 
-use pkcs8::{DecodePrivateKey, DecodePublicKey, EncodePublicKey};
+use pkcs8::{DecodePrivateKey, DecodePublicKey, EncodePrivateKey, EncodePublicKey};
 use signature::{Keypair, SignatureEncoding, Signer, Verifier};
 
 /// The public key in DER, and a signature of the message.
@@ -32,15 +32,18 @@ macro_rules! compared {
         use fips204::$set as ours;
         use ml_dsa::{Signature, SigningKey, VerifyingKey, $params};
         let message = b"a message";
-        let der = ours::PrivateKey::seed_to_der(&[7; 32]).expect("a seed");
-        let theirs = signed::<SigningKey<$params>, Signature<$params>>(&der, message);
+        let written = ours::Seed::from_bytes(&[7; 32])
+            .to_pkcs8_der()
+            .expect("its DER");
+        let der = written.as_bytes();
+        let theirs = signed::<SigningKey<$params>, Signature<$params>>(der, message);
         assert_eq!(
             theirs,
-            signed::<ours::PrivateKey, ours::Signature>(&der, message)
+            signed::<ours::PrivateKey, ours::Signature>(der, message)
         );
         assert_eq!(
             theirs,
-            signed::<ours::PreparedPrivateKey, ours::Signature>(&der, message)
+            signed::<ours::PreparedPrivateKey, ours::Signature>(der, message)
         );
         assert!(is_verified::<VerifyingKey<$params>, Signature<$params>>(
             &theirs, message

@@ -37,11 +37,12 @@ macro_rules! calls {
         mod $set {
             use crate::{array, hex, text, word};
             use fips204::traits::{KeyGen, SerDes, Signer, Verifier};
-            use fips204::$set::{KG, PrivateKey, PublicKey};
+            use fips204::$set::{KG, PrivateKey, PublicKey, Seed};
 
             pub fn answer(call: &str, a: &[Vec<u8>]) -> Result<String, &'static str> {
                 let private = || PrivateKey::try_from_bytes(array(&a[0])?);
                 let public = || PublicKey::try_from_bytes(array(&a[0])?);
+                let seed = || Ok::<_, &'static str>(Seed::from_bytes(&array(&a[0])?));
                 Ok(match call {
                     "keygen" => {
                         let (public, private) = KG::keygen_from_seed(&array(&a[0])?);
@@ -85,14 +86,18 @@ macro_rules! calls {
                     }
                     "private_key_to_pem" => hex(private()?.to_pem()?.as_bytes()),
                     "both_to_der" => {
-                        let mut der = [0; PrivateKey::BOTH_DER_LEN];
-                        PrivateKey::write_both_der(&array(&a[0])?, &mut der)?;
+                        let mut der = [0; Seed::BOTH_DER_LEN];
+                        seed()?.write_both_der(&mut der)?;
                         hex(&der)
                     }
-                    "seed_from_der" => hex(&PrivateKey::seed_from_der(&a[0])?),
-                    "seed_from_pem" => hex(&PrivateKey::seed_from_pem(text(&a[0])?)?),
-                    "seed_to_der" => hex(&PrivateKey::seed_to_der(&array(&a[0])?)?),
-                    "seed_to_pem" => hex(PrivateKey::seed_to_pem(&array(&a[0])?)?.as_bytes()),
+                    "seed_from_der" => hex(Seed::from_der(&a[0])?.as_bytes()),
+                    "seed_from_pem" => hex(Seed::from_pem(text(&a[0])?)?.as_bytes()),
+                    "seed_to_der" => {
+                        let mut der = [0; Seed::DER_LEN];
+                        seed()?.write_der(&mut der)?;
+                        hex(&der)
+                    }
+                    "seed_to_pem" => hex(seed()?.to_pem()?.as_bytes()),
                     _ => panic!("there is no call {call}"),
                 })
             }
