@@ -195,7 +195,9 @@ macro_rules! tests_of_a_set {
             fn has_text(given: &str, written: &str) {
                 let black = |text: &str| text.split_ascii_whitespace().collect::<String>();
                 assert!(black(given).contains(&black(written)), "{given}");
-                assert_eq!(given.matches("-----BEGIN ").count(), 1, "{given}");
+                // The dashes at the end of a line begin no text.
+                let begun = given.replace("KEY-----", "KEY");
+                assert_eq!(begun.matches("-----BEGIN ").count(), 1, "{given}");
             }
 
             fn read_pem(text: &[u8]) {
