@@ -98,7 +98,7 @@ def cases(found):
             sys.exit(f"mldsa.h: {export.name} takes something else than a number, and arrays with their lengths: write "
                      "how c/tests/levels.c calls it")
         names |= {name: lengths(name) for name, _ in export.arrays()}
-    # (also for an array of any length, which c/tests/edges.c makes up to this long, and for the text of the longest key)
+    # (also for an array of any length, which c/tests/edges.c makes up to this long, and for the longest key's text)
     rooms = {name: max(8192 if name.endswith("_pem") else 2048, *(length + 1 for length in sizes))
              for name, sizes in names.items()}
     lines = [f"enum {{ ARRAYS = {len(names)}, EXPORTS = {len(found)} }};\n"]
@@ -187,7 +187,8 @@ def rattle():
     code = [f"//! The numbers that the exports return, and their texts. {MADE}\n#![tactic(auto)]\n\n",
             "ghost use Rattle.std.specs.Prelude.{◌≡◌};\n",
             "ghost use Rattle.mldsa_c.specs.Numbers.{status_of, status_of_der, status_of_pem};\n\n",
-            "use fips204_shake::bytes::Fault;\nuse fips204_shake::der::DerFault;\nuse fips204_shake::pem::PemFault;\n\n"]
+            "use fips204_shake::bytes::Fault;\nuse fips204_shake::der::DerFault;\n",
+            "use fips204_shake::pem::PemFault;\n\n"]
     for it in own:
         meaning = it.meaning.rpartition(": ")[2]
         code += [f"/// {meaning[0].upper()}{meaning[1:]}.\npub(crate) const {it.name}: u32 = {it.number};\n\n"]

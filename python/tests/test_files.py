@@ -316,8 +316,8 @@ class Lax(unittest.TestCase):
 
 
 class BesideMlsign(unittest.TestCase):
-    """The program `mlsign` reads what is read here, and rejects with the same sentence what is rejected; and each verifies
-    what the other signs."""
+    """The program `mlsign` reads what is read here, and rejects with the same sentence what is rejected; and each
+    verifies what the other signs."""
 
     def test_signatures(self):
         """Signatures in files, under a context whose UTF-8 is signed, in both directions."""
