@@ -343,9 +343,9 @@ test("what WebCrypto of node writes is read, and what is written here it reads",
     }
 });
 
-test("that PEM is strict is said where it is read", () => {
+test("what may stand around a key is said where it is read", () => {
     for (const name of ["js/keys.d.ts", "js/README.md"]) {
         const words = text(name).replace(/[\s*`]+/g, " ");
-        assert.ok(words.includes("Strict PEM only: the file begins with -----BEGIN and ends with the line feed of its last line; mlsign also reads text around it, and mlsign convert writes the strict form"), name);
+        assert.ok(words.includes("Text may stand around a key, and white space within; a second key behind it is rejected"), name);
     }
 });
