@@ -98,8 +98,9 @@ def cases(found):
             sys.exit(f"mldsa.h: {export.name} takes something else than a number, and arrays with their lengths: write "
                      "how c/tests/levels.c calls it")
         names |= {name: lengths(name) for name, _ in export.arrays()}
-    # (also for an array of any length, which c/tests/edges.c makes up to this long)
-    rooms = {name: max(2048, *(length + 1 for length in sizes)) for name, sizes in names.items()}
+    # (also for an array of any length, which c/tests/edges.c makes up to this long, and for the longest key's text)
+    rooms = {name: max(8192 if name.endswith("_pem") else 2048, *(length + 1 for length in sizes))
+             for name, sizes in names.items()}
     lines = [f"enum {{ ARRAYS = {len(names)}, EXPORTS = {len(found)} }};\n"]
     lines += [f"#define ARRAY_{name} {place}\n" for place, name in enumerate(names)]
     lines += [f"enum {{ ROOM = {max(rooms.values())} }};\n"]
@@ -129,6 +130,10 @@ def cases(found):
 MADE = "`c/exports.py` made this file from c/mldsa.h: edit that one."
 # The faults of the Rattle library are those results that have their texts, and these.
 OTHERWISE = {"KEY_RANGE": "KeyRange"}
+# The faults of PEM have their texts in the header alone. A text that spells too much has no key of a right length.
+OF_PEM = {"NotPem": "PEM_MISSING", "Encrypted": "PEM_ENCRYPTED", "Certificate": "PEM_CERTIFICATE",
+          "OtherKind": "PEM_OTHER_KIND", "OtherLabel": "PEM_OTHER_LABEL", "CutShort": "PEM_CUT_SHORT",
+          "Behind": "PEM_TRAILING", "Damaged": "PEM_DAMAGED", "TooLong": "DER_KEY_LENGTH"}
 
 
 class Status:
@@ -176,11 +181,14 @@ def rattle():
     faults = variants("fips204_base/specs/Faults.antt", "words")
     of_der = variants("fips204_shake/specs/DerFaults.antt", "sentence")
     numbers, numbers_of_der, rows, none = numbered(faults), numbered(of_der), statuses(), texts()["default"]
-    own = [it for it in rows if it.number not in {*numbers.values(), *numbers_of_der.values()}]
+    numbers_of_pem = {name: next(it.number for it in rows if it.name == result) for name, result in OF_PEM.items()}
+    own = [it for it in rows
+           if it.number not in {*numbers.values(), *numbers_of_der.values(), *numbers_of_pem.values()}]
     code = [f"//! The numbers that the exports return, and their texts. {MADE}\n#![tactic(auto)]\n\n",
             "ghost use Rattle.std.specs.Prelude.{◌≡◌};\n",
-            "ghost use Rattle.mldsa_c.specs.Numbers.{status_of, status_of_der};\n\n",
-            "use fips204_shake::bytes::Fault;\nuse fips204_shake::der::DerFault;\n\n"]
+            "ghost use Rattle.mldsa_c.specs.Numbers.{status_of, status_of_der, status_of_pem};\n\n",
+            "use fips204_shake::bytes::Fault;\nuse fips204_shake::der::DerFault;\n",
+            "use fips204_shake::pem::PemFault;\n\n"]
     for it in own:
         meaning = it.meaning.rpartition(": ")[2]
         code += [f"/// {meaning[0].upper()}{meaning[1:]}.\npub(crate) const {it.name}: u32 = {it.number};\n\n"]
@@ -189,7 +197,8 @@ def rattle():
     code += [f'    "{it.text}",\n' + "    NO_STATUS,\n" * (it.number == 0) for it in rows]
     code += ["];\n"]
     for what, kind, function, found in (("a fault", "Fault", "status_of", numbers),
-                                        ("a fault of DER", "DerFault", "status_of_der", numbers_of_der)):
+                                        ("a fault of DER", "DerFault", "status_of_der", numbers_of_der),
+                                        ("a fault of PEM", "PemFault", "status_of_pem", numbers_of_pem)):
         code += [f"\n/// The status of {what}.\npub(crate) fn {function}(fault: {kind}) -> u32\n",
                  f"    ensures {{ result ≡ {function} fault }}\n{{\n    match fault {{\n"]
         code += [f"        {kind}::{name} => {number},\n" for name, number in found.items()]
@@ -204,12 +213,17 @@ def rattle():
              "use Rattle.fips204_shake.specs.DerFaults.{sentence}\n",
              "use Rattle.fips204_shake.specs.declared.der.fault.DerFault.{DerFault}\n",
              "use Rattle.fips204_shake.specs.declared.der.fault.DerFault.TheVariants."
-             f"{{{', '.join(numbers_of_der)}}}\n\n",
+             f"{{{', '.join(numbers_of_der)}}}\n",
+             "use Rattle.fips204_shake.specs.declared.pem.fault.PemFault.{PemFault}\n",
+             "use Rattle.fips204_shake.specs.declared.pem.fault.PemFault.TheVariants."
+             f"{{{', '.join(numbers_of_pem)}}}\n\n",
              "-- the status of each fault; no call has one of a generator, since the caller gives the random bytes\n",
              "abbrev pub status_of : Fault → ℕ\n"]
     specs += [f"status_of {name} = {number}\n" for name, number in numbers.items()]
     specs += ["\n-- the status of each fault of DER\nabbrev pub status_of_der : DerFault → ℕ\n"]
     specs += [f"status_of_der {name} = {number}\n" for name, number in numbers_of_der.items()]
+    specs += ["\n-- the status of each fault of PEM\nabbrev pub status_of_pem : PemFault → ℕ\n"]
+    specs += [f"status_of_pem {name} = {number}\n" for name, number in numbers_of_pem.items()]
     specs += ["\n-- the text of a number that no call returns\nabbrev pub no_status : List ℕ\n",
               f'no_status = codes "{none}"\n',
               "\n-- the text of each number from 0 on\nabbrev pub texts : List (List ℕ)\ntexts =\n"]

@@ -135,7 +135,15 @@ enum mldsa_status {
     MLDSA_DER_KEY_LENGTH = 20,        /**< the seed or key has another length than its algorithm's */
     MLDSA_OTHER_SET = 21,             /**< the key is one of another parameter set */
     MLDSA_INCONSISTENT = 22,          /**< the parts of the private key do not belong together */
-    MLDSA_NO_SEED = 23                /**< seed_from_der: the private key has no seed */
+    MLDSA_NO_SEED = 23,               /**< seed_from_der, seed_from_pem: the private key has no seed */
+    MLDSA_PEM_MISSING = 24,           /**< the text has no first line */
+    MLDSA_PEM_ENCRYPTED = 25,         /**< the text has a private key that is encrypted */
+    MLDSA_PEM_CERTIFICATE = 26,       /**< the text has a certificate */
+    MLDSA_PEM_OTHER_KIND = 27,        /**< the text has a public key in place of a private one, or the other way round */
+    MLDSA_PEM_OTHER_LABEL = 28,       /**< the first line of the text has another label */
+    MLDSA_PEM_CUT_SHORT = 29,         /**< the text ends before its last line does */
+    MLDSA_PEM_TRAILING = 30,          /**< another text follows */
+    MLDSA_PEM_DAMAGED = 31            /**< what stands between the first and the last line is not base64 */
 };
 
 #define MLDSA_SEED_LEN 32
@@ -155,7 +163,7 @@ enum mldsa_status {
  *  MLDSA*_STACK_PREPARE_PUBLIC_KEY   prepare_public_key, and _PREPARE_PRIVATE_KEY prepare_private_key
  *  MLDSA*_STACK_SIGN_PREPARED        sign_prepared, hash_sign_prepared, sign_mu_prepared
  *  MLDSA*_STACK_VERIFY_PREPARED      verify_prepared, hash_verify_prepared, verify_mu_prepared
- *  MLDSA*_STACK_DER                  the calls on keys in DER, whose names end in _der
+ *  MLDSA*_STACK_DER, _PEM            the calls on keys in DER and in PEM, whose names end so
  *  MLDSA_STACK_MU                    mu_begin, mu_begin_private, mldsa_mu_update, mldsa_mu_finish; it is enough for mldsa_version,
  *                                    mldsa_check_pre_hash, mldsa_text_of, mldsa_lengths and mldsa_name too
  *
@@ -810,16 +818,19 @@ uint32_t mldsa87_verify_mu_prepared(const uint8_t *prepared_public_key, size_t p
 #define MLDSA44_PRIVATE_KEY_DER_LEN 2588
 #define MLDSA44_BOTH_DER_LEN 2626
 #define MLDSA44_STACK_DER 78848
+#define MLDSA44_STACK_PEM 84992
 
 #define MLDSA65_PUBLIC_KEY_DER_LEN 1974
 #define MLDSA65_PRIVATE_KEY_DER_LEN 4060
 #define MLDSA65_BOTH_DER_LEN 4098
 #define MLDSA65_STACK_DER 111616
+#define MLDSA65_STACK_PEM 117760
 
 #define MLDSA87_PUBLIC_KEY_DER_LEN 2614
 #define MLDSA87_PRIVATE_KEY_DER_LEN 4924
 #define MLDSA87_BOTH_DER_LEN 4962
 #define MLDSA87_STACK_DER 149504
+#define MLDSA87_STACK_PEM 155648
 
 /** Writes a public key as files have it: the DER of a SubjectPublicKeyInfo (RFC 9881, section 4), of MLDSA44_PUBLIC_KEY_DER_LEN
  * bytes.
@@ -877,6 +888,36 @@ uint32_t mldsa44_private_key_from_der(const uint8_t *private_key_der, size_t pri
 MLDSA_ANSWERS MLDSA_ARRAYS(1, 1)
 uint32_t mldsa44_seed_from_der(const uint8_t *seed_der, size_t seed_der_len, uint8_t *seed, size_t seed_len);
 
+/** Reads a public key of a text in PEM (RFC 7468) of any length. Text may stand before its first line and behind its last one, and
+ * white space anywhere between them; a second text behind it is rejected. What it spells is read as public_key_from_der reads it.
+ * Needs MLDSA44_STACK_PEM bytes of stack.
+ * @return MLDSA_DONE, MLDSA_WRONG_LENGTH, MLDSA_PEM_MISSING, MLDSA_PEM_ENCRYPTED, MLDSA_PEM_CERTIFICATE, MLDSA_PEM_OTHER_KIND,
+ * MLDSA_PEM_OTHER_LABEL, MLDSA_PEM_CUT_SHORT, MLDSA_PEM_TRAILING, MLDSA_PEM_DAMAGED, MLDSA_DER_CUT_SHORT, MLDSA_DER_TRAILING,
+ * MLDSA_DER_DAMAGED, MLDSA_DER_ALGORITHM, MLDSA_DER_KEY_LENGTH, MLDSA_OTHER_SET */
+MLDSA_ANSWERS MLDSA_ARRAYS(1, 1)
+uint32_t mldsa44_public_key_from_pem(const uint8_t *public_key_pem, size_t public_key_pem_len,
+                                     uint8_t *public_key, size_t public_key_len);
+
+/** Reads the expanded private key of such a text, as private_key_from_der reads it. One that is encrypted has to be decrypted
+ * first.
+ * Needs MLDSA44_STACK_PEM bytes of stack.
+ * @return MLDSA_DONE, MLDSA_WRONG_LENGTH, MLDSA_PEM_MISSING, MLDSA_PEM_ENCRYPTED, MLDSA_PEM_CERTIFICATE, MLDSA_PEM_OTHER_KIND,
+ * MLDSA_PEM_OTHER_LABEL, MLDSA_PEM_CUT_SHORT, MLDSA_PEM_TRAILING, MLDSA_PEM_DAMAGED, MLDSA_DER_CUT_SHORT, MLDSA_DER_TRAILING,
+ * MLDSA_DER_DAMAGED, MLDSA_DER_VERSION, MLDSA_DER_ALGORITHM, MLDSA_DER_KEY_LENGTH, MLDSA_OTHER_SET, MLDSA_INCONSISTENT,
+ * MLDSA_SAMPLING_LIMIT */
+MLDSA_ANSWERS MLDSA_ARRAYS(1, 1)
+uint32_t mldsa44_private_key_from_pem(const uint8_t *private_key_pem, size_t private_key_pem_len,
+                                      uint8_t *private_key, size_t private_key_len);
+
+/** Reads the seed of a private key's text, as seed_from_der reads it.
+ * Needs MLDSA44_STACK_PEM bytes of stack.
+ * @return MLDSA_DONE, MLDSA_WRONG_LENGTH, MLDSA_NO_SEED, MLDSA_PEM_MISSING, MLDSA_PEM_ENCRYPTED, MLDSA_PEM_CERTIFICATE,
+ * MLDSA_PEM_OTHER_KIND, MLDSA_PEM_OTHER_LABEL, MLDSA_PEM_CUT_SHORT, MLDSA_PEM_TRAILING, MLDSA_PEM_DAMAGED, MLDSA_DER_CUT_SHORT,
+ * MLDSA_DER_TRAILING, MLDSA_DER_DAMAGED, MLDSA_DER_VERSION, MLDSA_DER_ALGORITHM, MLDSA_DER_KEY_LENGTH, MLDSA_OTHER_SET,
+ * MLDSA_INCONSISTENT, MLDSA_SAMPLING_LIMIT */
+MLDSA_ANSWERS MLDSA_ARRAYS(1, 1)
+uint32_t mldsa44_seed_from_pem(const uint8_t *seed_pem, size_t seed_pem_len, uint8_t *seed, size_t seed_len);
+
 /** Writes a public key as files have it: the DER of a SubjectPublicKeyInfo (RFC 9881, section 4), of MLDSA65_PUBLIC_KEY_DER_LEN
  * bytes.
  * Needs MLDSA65_STACK_DER bytes of stack.
@@ -933,6 +974,36 @@ uint32_t mldsa65_private_key_from_der(const uint8_t *private_key_der, size_t pri
 MLDSA_ANSWERS MLDSA_ARRAYS(1, 1)
 uint32_t mldsa65_seed_from_der(const uint8_t *seed_der, size_t seed_der_len, uint8_t *seed, size_t seed_len);
 
+/** Reads a public key of a text in PEM (RFC 7468) of any length. Text may stand before its first line and behind its last one, and
+ * white space anywhere between them; a second text behind it is rejected. What it spells is read as public_key_from_der reads it.
+ * Needs MLDSA65_STACK_PEM bytes of stack.
+ * @return MLDSA_DONE, MLDSA_WRONG_LENGTH, MLDSA_PEM_MISSING, MLDSA_PEM_ENCRYPTED, MLDSA_PEM_CERTIFICATE, MLDSA_PEM_OTHER_KIND,
+ * MLDSA_PEM_OTHER_LABEL, MLDSA_PEM_CUT_SHORT, MLDSA_PEM_TRAILING, MLDSA_PEM_DAMAGED, MLDSA_DER_CUT_SHORT, MLDSA_DER_TRAILING,
+ * MLDSA_DER_DAMAGED, MLDSA_DER_ALGORITHM, MLDSA_DER_KEY_LENGTH, MLDSA_OTHER_SET */
+MLDSA_ANSWERS MLDSA_ARRAYS(1, 1)
+uint32_t mldsa65_public_key_from_pem(const uint8_t *public_key_pem, size_t public_key_pem_len,
+                                     uint8_t *public_key, size_t public_key_len);
+
+/** Reads the expanded private key of such a text, as private_key_from_der reads it. One that is encrypted has to be decrypted
+ * first.
+ * Needs MLDSA65_STACK_PEM bytes of stack.
+ * @return MLDSA_DONE, MLDSA_WRONG_LENGTH, MLDSA_PEM_MISSING, MLDSA_PEM_ENCRYPTED, MLDSA_PEM_CERTIFICATE, MLDSA_PEM_OTHER_KIND,
+ * MLDSA_PEM_OTHER_LABEL, MLDSA_PEM_CUT_SHORT, MLDSA_PEM_TRAILING, MLDSA_PEM_DAMAGED, MLDSA_DER_CUT_SHORT, MLDSA_DER_TRAILING,
+ * MLDSA_DER_DAMAGED, MLDSA_DER_VERSION, MLDSA_DER_ALGORITHM, MLDSA_DER_KEY_LENGTH, MLDSA_OTHER_SET, MLDSA_INCONSISTENT,
+ * MLDSA_SAMPLING_LIMIT */
+MLDSA_ANSWERS MLDSA_ARRAYS(1, 1)
+uint32_t mldsa65_private_key_from_pem(const uint8_t *private_key_pem, size_t private_key_pem_len,
+                                      uint8_t *private_key, size_t private_key_len);
+
+/** Reads the seed of a private key's text, as seed_from_der reads it.
+ * Needs MLDSA65_STACK_PEM bytes of stack.
+ * @return MLDSA_DONE, MLDSA_WRONG_LENGTH, MLDSA_NO_SEED, MLDSA_PEM_MISSING, MLDSA_PEM_ENCRYPTED, MLDSA_PEM_CERTIFICATE,
+ * MLDSA_PEM_OTHER_KIND, MLDSA_PEM_OTHER_LABEL, MLDSA_PEM_CUT_SHORT, MLDSA_PEM_TRAILING, MLDSA_PEM_DAMAGED, MLDSA_DER_CUT_SHORT,
+ * MLDSA_DER_TRAILING, MLDSA_DER_DAMAGED, MLDSA_DER_VERSION, MLDSA_DER_ALGORITHM, MLDSA_DER_KEY_LENGTH, MLDSA_OTHER_SET,
+ * MLDSA_INCONSISTENT, MLDSA_SAMPLING_LIMIT */
+MLDSA_ANSWERS MLDSA_ARRAYS(1, 1)
+uint32_t mldsa65_seed_from_pem(const uint8_t *seed_pem, size_t seed_pem_len, uint8_t *seed, size_t seed_len);
+
 /** Writes a public key as files have it: the DER of a SubjectPublicKeyInfo (RFC 9881, section 4), of MLDSA87_PUBLIC_KEY_DER_LEN
  * bytes.
  * Needs MLDSA87_STACK_DER bytes of stack.
@@ -988,6 +1059,36 @@ uint32_t mldsa87_private_key_from_der(const uint8_t *private_key_der, size_t pri
  * MLDSA_DER_VERSION, MLDSA_DER_ALGORITHM, MLDSA_DER_KEY_LENGTH, MLDSA_OTHER_SET, MLDSA_INCONSISTENT, MLDSA_SAMPLING_LIMIT */
 MLDSA_ANSWERS MLDSA_ARRAYS(1, 1)
 uint32_t mldsa87_seed_from_der(const uint8_t *seed_der, size_t seed_der_len, uint8_t *seed, size_t seed_len);
+
+/** Reads a public key of a text in PEM (RFC 7468) of any length. Text may stand before its first line and behind its last one, and
+ * white space anywhere between them; a second text behind it is rejected. What it spells is read as public_key_from_der reads it.
+ * Needs MLDSA87_STACK_PEM bytes of stack.
+ * @return MLDSA_DONE, MLDSA_WRONG_LENGTH, MLDSA_PEM_MISSING, MLDSA_PEM_ENCRYPTED, MLDSA_PEM_CERTIFICATE, MLDSA_PEM_OTHER_KIND,
+ * MLDSA_PEM_OTHER_LABEL, MLDSA_PEM_CUT_SHORT, MLDSA_PEM_TRAILING, MLDSA_PEM_DAMAGED, MLDSA_DER_CUT_SHORT, MLDSA_DER_TRAILING,
+ * MLDSA_DER_DAMAGED, MLDSA_DER_ALGORITHM, MLDSA_DER_KEY_LENGTH, MLDSA_OTHER_SET */
+MLDSA_ANSWERS MLDSA_ARRAYS(1, 1)
+uint32_t mldsa87_public_key_from_pem(const uint8_t *public_key_pem, size_t public_key_pem_len,
+                                     uint8_t *public_key, size_t public_key_len);
+
+/** Reads the expanded private key of such a text, as private_key_from_der reads it. One that is encrypted has to be decrypted
+ * first.
+ * Needs MLDSA87_STACK_PEM bytes of stack.
+ * @return MLDSA_DONE, MLDSA_WRONG_LENGTH, MLDSA_PEM_MISSING, MLDSA_PEM_ENCRYPTED, MLDSA_PEM_CERTIFICATE, MLDSA_PEM_OTHER_KIND,
+ * MLDSA_PEM_OTHER_LABEL, MLDSA_PEM_CUT_SHORT, MLDSA_PEM_TRAILING, MLDSA_PEM_DAMAGED, MLDSA_DER_CUT_SHORT, MLDSA_DER_TRAILING,
+ * MLDSA_DER_DAMAGED, MLDSA_DER_VERSION, MLDSA_DER_ALGORITHM, MLDSA_DER_KEY_LENGTH, MLDSA_OTHER_SET, MLDSA_INCONSISTENT,
+ * MLDSA_SAMPLING_LIMIT */
+MLDSA_ANSWERS MLDSA_ARRAYS(1, 1)
+uint32_t mldsa87_private_key_from_pem(const uint8_t *private_key_pem, size_t private_key_pem_len,
+                                      uint8_t *private_key, size_t private_key_len);
+
+/** Reads the seed of a private key's text, as seed_from_der reads it.
+ * Needs MLDSA87_STACK_PEM bytes of stack.
+ * @return MLDSA_DONE, MLDSA_WRONG_LENGTH, MLDSA_NO_SEED, MLDSA_PEM_MISSING, MLDSA_PEM_ENCRYPTED, MLDSA_PEM_CERTIFICATE,
+ * MLDSA_PEM_OTHER_KIND, MLDSA_PEM_OTHER_LABEL, MLDSA_PEM_CUT_SHORT, MLDSA_PEM_TRAILING, MLDSA_PEM_DAMAGED, MLDSA_DER_CUT_SHORT,
+ * MLDSA_DER_TRAILING, MLDSA_DER_DAMAGED, MLDSA_DER_VERSION, MLDSA_DER_ALGORITHM, MLDSA_DER_KEY_LENGTH, MLDSA_OTHER_SET,
+ * MLDSA_INCONSISTENT, MLDSA_SAMPLING_LIMIT */
+MLDSA_ANSWERS MLDSA_ARRAYS(1, 1)
+uint32_t mldsa87_seed_from_pem(const uint8_t *seed_pem, size_t seed_pem_len, uint8_t *seed, size_t seed_len);
 
 /* The same for every set. */
 
@@ -1087,6 +1188,14 @@ MLDSA_INLINE const char *mldsa_text(uint32_t status)
     case MLDSA_OTHER_SET: return "its key is one of another parameter set";
     case MLDSA_INCONSISTENT: return "the private key is not consistent";
     case MLDSA_NO_SEED: return "it has no seed: an expanded key does not reveal its seed";
+    case MLDSA_PEM_MISSING: return "it is not in PEM: no line -----BEGIN comes first";
+    case MLDSA_PEM_ENCRYPTED: return "it is encrypted: decrypt it first";
+    case MLDSA_PEM_CERTIFICATE: return "it has a certificate: take the key out of it";
+    case MLDSA_PEM_OTHER_KIND: return "it has a key of another kind";
+    case MLDSA_PEM_OTHER_LABEL: return "it has something else than a key";
+    case MLDSA_PEM_CUT_SHORT: return "it is cut short";
+    case MLDSA_PEM_TRAILING: return "more follows behind its end";
+    case MLDSA_PEM_DAMAGED: return "its text is damaged";
     default: return "no result of this library";
     }
 }

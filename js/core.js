@@ -50,6 +50,14 @@ const STATUSES = {
     OTHER_SET: [21, "its key is one of another parameter set"],
     INCONSISTENT: [22, "the private key is not consistent"],
     NO_SEED: [23, "it has no seed: an expanded key does not reveal its seed"],
+    PEM_MISSING: [24, "it is not in PEM: no line -----BEGIN comes first"],
+    PEM_ENCRYPTED: [25, "it is encrypted: decrypt it first"],
+    PEM_CERTIFICATE: [26, "it has a certificate: take the key out of it"],
+    PEM_OTHER_KIND: [27, "it has a key of another kind"],
+    PEM_OTHER_LABEL: [28, "it has something else than a key"],
+    PEM_CUT_SHORT: [29, "it is cut short"],
+    PEM_TRAILING: [30, "more follows behind its end"],
+    PEM_DAMAGED: [31, "its text is damaged"],
 };
 const [DONE, NO, WRONG_LENGTH, BROKEN_STATE] = ["DONE", "NO", "WRONG_LENGTH", "BROKEN_STATE"].map((code) => STATUSES[code][0]);
 
@@ -536,6 +544,21 @@ class MlDsa {
     seedFromDer(der) {
         atMost("seedFromDer", arguments, 1);
         return done(this.#call("seed_from_der", [bytes("der", der)], [SEED_LENGTH]))[0];
+    }
+
+    publicKeyFromPem(pem) {
+        atMost("publicKeyFromPem", arguments, 1);
+        return done(this.#call("public_key_from_pem", [bytes("pem", pem)], [this.lengths.publicKey]))[0];
+    }
+
+    privateKeyFromPem(pem) {
+        atMost("privateKeyFromPem", arguments, 1);
+        return done(this.#call("private_key_from_pem", [bytes("pem", pem)], [this.lengths.privateKey]))[0];
+    }
+
+    seedFromPem(pem) {
+        atMost("seedFromPem", arguments, 1);
+        return done(this.#call("seed_from_pem", [bytes("pem", pem)], [SEED_LENGTH]))[0];
     }
 }
 

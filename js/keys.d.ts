@@ -10,8 +10,7 @@ export type Sets = Readonly<Record<"mlDsa44" | "mlDsa65" | "mlDsa87", MlDsa>>;
 
 /**
  * Reads a public key as `mlsign` and OpenSSL write it, PEM of a SubjectPublicKeyInfo (RFC 9881, RFC 7468): the bytes of
- * the file, or its text. Strict PEM only: the file begins with -----BEGIN and ends with the line feed of its last line;
- * `mlsign` also reads text around it, and `mlsign convert` writes the strict form.
+ * the file, or its text. Text may stand around a key, and white space within; a second key behind it is rejected.
  * @example
  * const { set, publicKey } = readPublicKey(sets, text);
  * sets[`mlDsa${set}`].name; // "ML-DSA-65"

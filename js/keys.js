@@ -1,6 +1,5 @@
-// Keys in files, as `mlsign` and OpenSSL write them: PEM in the strict form of RFC 7468, around the DER that the library
-// reads and writes (RFC 9881). What is read has one spelling: another text, however near, is rejected, and by the
-// sentences of `mlsign` but where what was found is named.
+// Keys in files, as `mlsign` and OpenSSL write them: PEM (RFC 7468) around DER (RFC 9881). The library reads both, in the
+// lax form of PEM too, and writes the DER. A file is rejected by the library's sentences but where what was found is named.
 import { atMost, bytesIn, webCrypto } from "./engine.js";
 
 const PUBLIC = "PUBLIC KEY";
@@ -57,48 +56,17 @@ function refuse(message) {
     throw new KeyFileError(message);
 }
 
-const CUT = "it is cut short";
-const DAMAGED = "its text is damaged";
+/** The codes of a text that has something else than a key of this kind. */
+const OTHERS = ["PEM_ENCRYPTED", "PEM_CERTIFICATE", "PEM_OTHER_KIND", "PEM_OTHER_LABEL"];
 
-/** Why a text that begins as PEM does is not of this kind. */
-function otherKind(text, label) {
-    const found = text.match(/^-----BEGIN ([A-Z][A-Z0-9 ]{0,39})-----/)?.[1];
+/** What the bytes of a text have that is not of this kind. */
+function otherKind(file, label) {
+    const text = Array.from(file, (byte) => String.fromCharCode(byte)).join("");
+    const found = text.match(/-----BEGIN (.*)/)?.[1].match(/^([A-Z][A-Z0-9 ]{0,39})-----/)?.[1];
     const a = (name) => `${/^[AEIORX]/.test(name) ? "an" : "a"} ${name}`;
     return found
         ? `it has ${a(found)}, and not ${a(label)}`
         : "it has a key of another kind, or something else than a key";
-}
-
-/** The lines of a PEM text between its first and its last one, joined. */
-function symbolsOf(text, label) {
-    const [begin, end] = [`-----BEGIN ${label}-----`, `-----END ${label}-----`];
-    if (!text.startsWith(begin)) {
-        refuse(
-            begin.startsWith(text) ? CUT
-            : text.startsWith("-----BEGIN ") ? otherKind(text, label)
-            : "it is not in PEM: no line -----BEGIN comes first",
-        );
-    }
-    let rest = text.slice(begin.length);
-    const ending = ["\n", "\r\n"].find((it) => rest.startsWith(it)) ?? refuse("\r\n".startsWith(rest) ? CUT : DAMAGED);
-    rest = rest.slice(ending.length);
-    const dash = rest.includes("-") ? rest.indexOf("-") : rest.length;
-    const last = rest.slice(dash);
-    if (last !== end + ending) {
-        const isCut = (end + ending).startsWith(last);
-        refuse(
-            last === end ? "its last line does not end with a line feed"
-            : isCut ? CUT
-            : last.startsWith(end + ending) ? "more follows behind its end"
-            : DAMAGED,
-        );
-    }
-    const lines = rest.slice(0, dash);
-    const symbols = lines.replace(/[\r\n]/g, "");
-    if ((symbols.match(/.{1,64}/gs) ?? []).map((line) => line + ending).join("") !== lines) {
-        refuse(DAMAGED);
-    }
-    return symbols;
 }
 
 /** The bytes of base64, which has one spelling; undefined for another text. */
@@ -120,16 +88,15 @@ function isDer(bytes) {
     return bytes[0] === 0x30 && ([129, 130].includes(bytes[1]) || bytes[1] === bytes.length - 2);
 }
 
-/** The DER in a file: its bytes or its text. */
-function derOf(file, label) {
+/** The bytes of a file, or of its text. */
+function bytesOf(file, label) {
     if (file.length === 0) {
         refuse("it is empty");
     }
     if (isDer(file)) {
         refuse(`it seems to be DER: ${BY_DER[label]} of a set reads it`);
     }
-    const text = () => Array.from(file, (byte) => String.fromCharCode(byte)).join("");
-    return decoded(symbolsOf(typeof file === "string" ? file : text(), label)) ?? refuse(DAMAGED);
+    return typeof file === "string" ? new TextEncoder().encode(file) : file;
 }
 
 /** The text of DER. */
@@ -138,11 +105,11 @@ function pemOf(der, label) {
     return [`-----BEGIN ${label}-----`, ...lines, `-----END ${label}-----`, ""].join("\n");
 }
 
-/** What a call reads of DER, at the set whose key it is: the set's number and the bytes. */
-function readBy(sets, call, der) {
+/** What a call reads of a file, at the set whose key it is: the set's number and the bytes. */
+function readBy(sets, call, file, label) {
     for (const set of NUMBERS) {
         try {
-            return [set, sets[`mlDsa${set}`][call](der)];
+            return [set, sets[`mlDsa${set}`][call](file)];
         } catch (error) {
             if (error.code === "NO_SEED") {
                 return [set, undefined];
@@ -151,7 +118,7 @@ function readBy(sets, call, der) {
                 throw error;
             }
             if (error.code !== "OTHER_SET") {
-                refuse(error.message);
+                refuse(OTHERS.includes(error.code) ? otherKind(file, label) : error.message);
             }
         }
     }
@@ -162,19 +129,19 @@ function readBy(sets, call, der) {
  * a `KeyFileError`. */
 export function readPublicKey(sets, file) {
     const given = checkReading("readPublicKey", arguments);
-    const [set, publicKey] = readBy(sets, "publicKeyFromDer", derOf(given, PUBLIC));
+    const [set, publicKey] = readBy(sets, "publicKeyFromPem", bytesOf(given, PUBLIC), PUBLIC);
     return { set, publicKey };
 }
 
 /** Reads a private key in the same way: its expanded key, its public key, and its seed where it has one. */
 export function readPrivateKey(sets, file) {
-    const der = derOf(checkReading("readPrivateKey", arguments), PRIVATE);
-    const [set, seed] = readBy(sets, "seedFromDer", der);
+    const given = bytesOf(checkReading("readPrivateKey", arguments), PRIVATE);
+    const [set, seed] = readBy(sets, "seedFromPem", given, PRIVATE);
     const mlDsa = sets[`mlDsa${set}`];
     if (seed !== undefined) {
         return { set, seed, ...mlDsa.keygen(seed) };
     }
-    const [, privateKey] = readBy(sets, "privateKeyFromDer", der);
+    const [, privateKey] = readBy(sets, "privateKeyFromPem", given, PRIVATE);
     return { set, seed, publicKey: mlDsa.publicKey(privateKey), privateKey };
 }
 
@@ -203,12 +170,12 @@ export function writePrivateKey(mlDsa, key) {
 /** The fingerprint of a public key's file: SHA-256 of its DER, as `mlsign show` prints it. */
 export async function fingerprint(sets, file) {
     const given = checkReading("fingerprint", arguments);
-    readPublicKey(sets, given);
+    const { set, publicKey } = readPublicKey(sets, given);
     const subtle = (await webCrypto())?.subtle;
     if (!subtle) {
         throw new Error("there is no crypto.subtle: a page has it over https, from localhost or from a file");
     }
-    const digest = new Uint8Array(await subtle.digest("SHA-256", derOf(given, PUBLIC)));
+    const digest = new Uint8Array(await subtle.digest("SHA-256", sets[`mlDsa${set}`].publicKeyToDer(publicKey)));
     return `SHA256:${encoded(digest).replace(/=+$/, "")}`;
 }
 

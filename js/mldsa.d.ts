@@ -42,6 +42,22 @@ export type ErrorCode =
     | "INCONSISTENT"
     /** it has no seed: an expanded key does not reveal its seed */
     | "NO_SEED"
+    /** it is not in PEM: no line -----BEGIN comes first */
+    | "PEM_MISSING"
+    /** it is encrypted: decrypt it first */
+    | "PEM_ENCRYPTED"
+    /** it has a certificate: take the key out of it */
+    | "PEM_CERTIFICATE"
+    /** it has a key of another kind */
+    | "PEM_OTHER_KIND"
+    /** it has something else than a key */
+    | "PEM_OTHER_LABEL"
+    /** it is cut short */
+    | "PEM_CUT_SHORT"
+    /** more follows behind its end */
+    | "PEM_TRAILING"
+    /** its text is damaged */
+    | "PEM_DAMAGED"
     ;
 
 /**
@@ -293,6 +309,27 @@ export interface MlDsa {
      * @throws `MlDsaError` as with `privateKeyFromDer`, or `NO_SEED`.
      */
     seedFromDer(der: Uint8Array): Bytes;
+    /**
+     * Reads a public key in PEM, as `readPublicKey` of `mldsa/keys` does at every set.
+     * @example
+     * mlDsa65.publicKeyFromPem(new TextEncoder().encode(writePublicKey(mlDsa65, publicKey))).length; // 1952
+     * @throws `MlDsaError` `PEM_..` for another text, or as with `publicKeyFromDer`.
+     */
+    publicKeyFromPem(pem: Uint8Array): Bytes;
+    /**
+     * Reads the expanded key of a private key in PEM, in any of the three forms.
+     * @example
+     * mlDsa65.privateKeyFromPem(new TextEncoder().encode(writePrivateKey(mlDsa65, privateKey))).length; // 4032
+     * @throws `MlDsaError` `PEM_..` for another text, or as with `privateKeyFromDer`.
+     */
+    privateKeyFromPem(pem: Uint8Array): Bytes;
+    /**
+     * Reads the seed of a private key in PEM.
+     * @example
+     * mlDsa65.seedFromPem(new TextEncoder().encode(writePrivateKey(mlDsa65, new Uint8Array(32).fill(7))))[31]; // 7
+     * @throws `MlDsaError` as with `privateKeyFromPem`, or `NO_SEED`.
+     */
+    seedFromPem(pem: Uint8Array): Bytes;
 }
 
 /** A compiled module, if the types of WebAssembly are known. */

@@ -3,7 +3,7 @@
  *
  * Secret are the seed of a pair, the random bytes, and of a private key all but rho and tr. What the standard makes public is
  * declared so where the library has handed it out: public keys, signatures, and the results. */
-#include "../../c/tests/sets.h"
+#include "../../c/tests/pem.h"
 
 #include <valgrind/memcheck.h>
 
@@ -14,7 +14,7 @@ enum { ROUNDS = 4, MESSAGE = 300, RHO = 32, TR = 64, TR_LEN = 64 };
 
 static uint8_t seed[32], random_bytes[32], public_key[LONGEST_KEY], private_key[LONGEST_KEY], signature[LONGEST_SIGNATURE];
 static uint8_t message[MESSAGE], digest[32], mu[64], prepared[LONGEST_PREPARED_KEY], state[MLDSA_STATE_LEN];
-static uint8_t file[LONGEST_DER], read_key[LONGEST_KEY], read_seed[32];
+static uint8_t file[LONGEST_DER], text[LONGEST_PEM], read_key[LONGEST_KEY], read_seed[32];
 
 /* Results are public. */
 static void done(const char *call, uint32_t status)
@@ -31,12 +31,16 @@ static void key_is_secret(const struct set *s)
     PUBLIC(private_key + TR, TR_LEN);
 }
 
-/* What a file of a key holds of it is secret, and its frame is not. */
+/* What a file of a key holds of it is secret, and its frame is not. So are the symbols of its text, and not its lines. */
 static void read_again(const struct set *s, size_t length, int has_seed)
 {
-    if (has_seed)
+    size_t text_length = pem_of("PRIVATE KEY", file, length, text);
+    if (has_seed) {
         done("seed_from_der", s->seed_from_der(file, length, read_seed, 32));
+        done("seed_from_pem", s->seed_from_pem(text, text_length, read_seed, 32));
+    }
     done("private_key_from_der", s->private_key_from_der(file, length, read_key, s->private_key_len));
+    done("private_key_from_pem", s->private_key_from_pem(text, text_length, read_key, s->private_key_len));
 }
 
 static void files(const struct set *s)

@@ -1,9 +1,9 @@
-/* What strangers give, for libFuzzer: keys in DER, keys and signatures of any length, prepared keys, and states of a message in
+/* What strangers give, for libFuzzer: keys in DER and in PEM, keys and signatures of any length, prepared keys, and states of a message in
  * pieces. What a call gives is held by a second road to it; c/fuzz/run compiles one program with each of the functions below as
  * its TARGET. Each array has a block of its own, so that the sanitizer sees every byte that is touched beside it. */
-#include "../tests/sets.h"
+#include "../tests/pem.h"
 
-enum { Q = 8380417, HELD = 64 };
+enum { Q = 8380417, HELD = 96 };
 
 static void *blocks[HELD];
 static int held;
@@ -100,20 +100,49 @@ static const struct set *chosen(struct input *in)
     return &SETS[number(in, 1) % 3];
 }
 
+/* What a call reads of the text of a file is what the call for DER reads of the file, up to the longest one. */
+static void of_text(uint32_t (*call)(in, size_t, uint8_t *, size_t), const char *label, struct bytes file, size_t longest,
+                    uint32_t status, const uint8_t *key, size_t length)
+{
+    uint8_t *text = array(file.length / 3 * 4 + file.length / 48 + 80), *read = array(length);
+    size_t text_length = pem_of(label, file.at, file.length, text);
+    uint32_t of_pem = wrote(call(copy(text, text_length), text_length, read, length), read, length);
+    HOLDS(of_pem == (file.length <= longest ? status : MLDSA_DER_KEY_LENGTH) && (of_pem != MLDSA_DONE || !memcmp(read, key, length)));
+}
+
+/* Any text, with white space and text around a key: each call has the same fault of it, or a status of DER. */
+static void text(struct bytes given)
+{
+    uint32_t first = 0;
+    for (const struct set *s = SETS; s < SETS + 3; s++) {
+        uint8_t *seed = array(32), *expanded = array(s->private_key_len);
+        uint32_t of_seed = wrote(s->seed_from_pem(given.at, given.length, seed, 32), seed, 32);
+        uint32_t of_key = wrote(s->private_key_from_pem(given.at, given.length, expanded, s->private_key_len), expanded, s->private_key_len);
+        HOLDS(of_seed <= MLDSA_PEM_DAMAGED && (of_seed == MLDSA_DONE || of_seed >= MLDSA_DER_CUT_SHORT));
+        HOLDS(of_seed < MLDSA_PEM_MISSING || (of_key == of_seed && (s == SETS || first == of_seed)));
+        first = of_seed;
+    }
+}
+
 /* A key in DER has one form and one set, so what is read is what is written again; and a seed and a key agree. */
 static void der(struct input in)
 {
     int readers = 0, refusals = 0;
     struct bytes file = taken(&in, in.left);
+    text(file);
     for (const struct set *s = SETS; s < SETS + 3; s++) {
         size_t pk = s->public_key_len, sk = s->private_key_len;
         uint8_t *key = array(pk), *seed = array(32), *expanded = array(sk), *again = array(file.length);
-        if (wrote(s->public_key_from_der(file.at, file.length, key, pk), key, pk) == MLDSA_DONE) {
+        uint32_t of_public = wrote(s->public_key_from_der(file.at, file.length, key, pk), key, pk);
+        if (of_public == MLDSA_DONE) {
             readers++;
             HOLDS(s->public_key_to_der(key, pk, again, file.length) == MLDSA_DONE && !memcmp(again, file.at, file.length));
         }
+        of_text(s->public_key_from_pem, "PUBLIC KEY", file, MLDSA87_PUBLIC_KEY_DER_LEN, of_public, key, pk);
         uint32_t of_seed = wrote(s->seed_from_der(file.at, file.length, seed, 32), seed, 32);
         uint32_t of_key = wrote(s->private_key_from_der(file.at, file.length, expanded, sk), expanded, sk);
+        of_text(s->seed_from_pem, "PRIVATE KEY", file, LONGEST_DER, of_seed, seed, 32);
+        of_text(s->private_key_from_pem, "PRIVATE KEY", file, LONGEST_DER, of_key, expanded, sk);
         refusals += of_seed == MLDSA_OTHER_SET;
         if (of_seed == MLDSA_DONE) {
             uint8_t *public_key = array(pk), *generated = array(sk);

@@ -33,6 +33,14 @@ IS(MLDSA_DER_KEY_LENGTH, 20);
 IS(MLDSA_OTHER_SET, 21);
 IS(MLDSA_INCONSISTENT, 22);
 IS(MLDSA_NO_SEED, 23);
+IS(MLDSA_PEM_MISSING, 24);
+IS(MLDSA_PEM_ENCRYPTED, 25);
+IS(MLDSA_PEM_CERTIFICATE, 26);
+IS(MLDSA_PEM_OTHER_KIND, 27);
+IS(MLDSA_PEM_OTHER_LABEL, 28);
+IS(MLDSA_PEM_CUT_SHORT, 29);
+IS(MLDSA_PEM_TRAILING, 30);
+IS(MLDSA_PEM_DAMAGED, 31);
 
 IS(MLDSA_SEED_LEN, 32);
 IS(MLDSA_RANDOM_LEN, 32);
@@ -90,6 +98,14 @@ SET(87, 2592, 4896, 4627, 60000, 62240);
 DER(44, 1334, 2588, 2626);
 DER(65, 1974, 4060, 4098);
 DER(87, 2614, 4924, 4962);
+
+#define PEM(n)                                                                                                 \
+    HAS(mldsa##n##_public_key_from_pem, IN, OUT);                                                              \
+    HAS(mldsa##n##_private_key_from_pem, IN, OUT);                                                             \
+    HAS(mldsa##n##_seed_from_pem, IN, OUT)
+PEM(44);
+PEM(65);
+PEM(87);
 
 HAS(mldsa_mu_update, IN, OUT);
 HAS(mldsa_mu_finish, IN, OUT);

@@ -2,7 +2,7 @@
 #ifndef ARRAYS_H
 #define ARRAYS_H
 
-#include "sets.h"
+#include "pem.h"
 
 struct array {
     size_t len;
@@ -37,6 +37,18 @@ static void fit_oid(struct array *pool)
 #else
     (void)pool;
 #endif
+}
+
+/* Makes each text that a call reads that of the DER which a call before it wrote: no call writes PEM. */
+static void fit_texts(struct array *pool, const struct export *call)
+{
+    for (int k = 0; k < call->count; k++) {
+        const char *name = KINDS[call->arrays[k]].name, *form = strstr(name, "_pem");
+        for (int i = 0; i < ARRAYS && form; i++)
+            if (!strncmp(KINDS[i].name, name, (size_t)(form - name)) && !strcmp(KINDS[i].name + (form - name), "_der"))
+                pool[call->arrays[k]].len = pem_of(name[1] == 'u' ? "PUBLIC KEY" : "PRIVATE KEY", pool[i].at, pool[i].len,
+                                                   pool[call->arrays[k]].at);
+    }
 }
 
 #endif

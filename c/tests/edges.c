@@ -268,6 +268,11 @@ static void make_round(int count)
     for (int k = 0; k < EXPORTS && !failures; k++) {
         if (!is_of_round(&CALLS[k]))
             continue;
+        for (int i = 0; i < ARRAYS; i++)
+            pool[i].len = now.lengths[i];
+        fit_texts(pool, &CALLS[k]);
+        for (int i = 0; i < ARRAYS; i++)
+            now.lengths[i] = pool[i].len;
         if (made_calls < count && !make(&CALLS[k], 0))
             wrong("is not done", "with what the calls before it wrote");
         for (int i = 0; i < CHANGED && made_calls < count && !failures; i++)

@@ -105,6 +105,8 @@ int main(int count, char **words)
         for (int k = 0; k < EXPORTS; k++) {
             if (CALLS[k].set && CALLS[k].set != number)
                 continue;
+            for (int l = 0; l < LEVELS; l++)
+                fit_texts(plain[l], &CALLS[k]);
             done[k] += call_at(level, &CALLS[k], plain, "") == CALLS[k].done;
             if (CALLS[k].count == 0)
                 continue;

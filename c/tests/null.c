@@ -16,6 +16,7 @@ int main(void)
         WANT(s->verify(nothing, 0, nothing, 0, nothing, 0, nothing, 0), MLDSA_WRONG_LENGTH);
         WANT(s->keygen(nothing, 0, (uint8_t *)nothing, 0, (uint8_t *)nothing, 0), MLDSA_WRONG_LENGTH);
         WANT(s->public_key_from_der(nothing, 0, public_key, pk), MLDSA_DER_CUT_SHORT);
+        WANT(s->public_key_from_pem(nothing, 0, public_key, pk), MLDSA_PEM_CUT_SHORT);
         WANT(s->mu_begin(public_key, pk, nothing, 0, state, sizeof state), MLDSA_DONE);
         memcpy(other, state, sizeof state);
         WANT(mldsa_mu_update(nothing, 0, state, sizeof state), MLDSA_DONE);

@@ -40,7 +40,7 @@ struct set {
     uint32_t (*sign_prepared)(in, size_t, in, size_t, in, size_t, in, size_t, uint8_t *, size_t);
     uint32_t (*hash_sign_prepared)(in, size_t, in, size_t, in, size_t, in, size_t, in, size_t, uint8_t *, size_t);
     uint32_t (*sign_mu_prepared)(in, size_t, in, size_t, in, size_t, uint8_t *, size_t);
-    size_t public_key_der_len, private_key_der_len, both_der_len, stack_der;
+    size_t public_key_der_len, private_key_der_len, both_der_len, stack_der, stack_pem;
     uint32_t (*public_key_to_der)(in, size_t, uint8_t *, size_t);
     uint32_t (*public_key_from_der)(in, size_t, uint8_t *, size_t);
     uint32_t (*seed_to_der)(in, size_t, uint8_t *, size_t);
@@ -48,6 +48,9 @@ struct set {
     uint32_t (*both_to_der)(in, size_t, uint8_t *, size_t);
     uint32_t (*private_key_from_der)(in, size_t, uint8_t *, size_t);
     uint32_t (*seed_from_der)(in, size_t, uint8_t *, size_t);
+    uint32_t (*public_key_from_pem)(in, size_t, uint8_t *, size_t);
+    uint32_t (*private_key_from_pem)(in, size_t, uint8_t *, size_t);
+    uint32_t (*seed_from_pem)(in, size_t, uint8_t *, size_t);
 };
 
 #define SET(N)                                                                                                 \
@@ -65,9 +68,10 @@ struct set {
             mldsa##N##_hash_verify_prepared, mldsa##N##_verify_mu_prepared, mldsa##N##_prepare_private_key,    \
             mldsa##N##_sign_prepared, mldsa##N##_hash_sign_prepared, mldsa##N##_sign_mu_prepared,              \
             MLDSA##N##_PUBLIC_KEY_DER_LEN, MLDSA##N##_PRIVATE_KEY_DER_LEN, MLDSA##N##_BOTH_DER_LEN,            \
-            MLDSA##N##_STACK_DER, mldsa##N##_public_key_to_der, mldsa##N##_public_key_from_der,                \
-            mldsa##N##_seed_to_der, mldsa##N##_private_key_to_der, mldsa##N##_both_to_der,                     \
-            mldsa##N##_private_key_from_der, mldsa##N##_seed_from_der                                          \
+            MLDSA##N##_STACK_DER, MLDSA##N##_STACK_PEM, mldsa##N##_public_key_to_der,                          \
+            mldsa##N##_public_key_from_der, mldsa##N##_seed_to_der, mldsa##N##_private_key_to_der,             \
+            mldsa##N##_both_to_der, mldsa##N##_private_key_from_der, mldsa##N##_seed_from_der,                 \
+            mldsa##N##_public_key_from_pem, mldsa##N##_private_key_from_pem, mldsa##N##_seed_from_pem          \
     }
 static const struct set SETS[3] = {SET(44), SET(65), SET(87)};
 

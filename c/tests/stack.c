@@ -2,7 +2,7 @@
  * on which a signal is handled.
  * `stack measure` prints what each call uses: SET NAME BYTES. `stack at-most` allows a call that needs much less than is stated. */
 #define _GNU_SOURCE
-#include "sets.h"
+#include "pem.h"
 
 #include <signal.h>
 #include <sys/mman.h>
@@ -95,6 +95,29 @@ static void der(void)
         + s->private_key_from_der(file, s->both_der_len, private_key, s->private_key_len)
         + s->seed_from_der(file, s->both_der_len, seed, 32);
 }
+/* (their texts are made elsewhere, on another stack) */
+static uint8_t public_text[LONGEST_PEM], texts[3][LONGEST_PEM];
+static size_t public_text_len, text_lens[3];
+static void make_texts(void)
+{
+    static uint8_t file[LONGEST_DER];
+    WANT(s->public_key_to_der(public_key, s->public_key_len, file, s->public_key_der_len), MLDSA_DONE);
+    public_text_len = pem_of("PUBLIC KEY", file, s->public_key_der_len, public_text);
+    WANT(s->seed_to_der(seed, 32, file, MLDSA_SEED_DER_LEN), MLDSA_DONE);
+    text_lens[0] = pem_of("PRIVATE KEY", file, MLDSA_SEED_DER_LEN, texts[0]);
+    WANT(s->private_key_to_der(private_key, s->private_key_len, file, s->private_key_der_len), MLDSA_DONE);
+    text_lens[1] = pem_of("PRIVATE KEY", file, s->private_key_der_len, texts[1]);
+    WANT(s->both_to_der(seed, 32, file, s->both_der_len), MLDSA_DONE);
+    text_lens[2] = pem_of("PRIVATE KEY", file, s->both_der_len, texts[2]);
+}
+static void pem(void)
+{
+    answer = s->public_key_from_pem(public_text, public_text_len, public_key, s->public_key_len)
+        + s->private_key_from_pem(texts[0], text_lens[0], private_key, s->private_key_len)
+        + s->private_key_from_pem(texts[1], text_lens[1], private_key, s->private_key_len)
+        + s->private_key_from_pem(texts[2], text_lens[2], private_key, s->private_key_len)
+        + s->seed_from_pem(texts[0], text_lens[0], seed, 32) + s->seed_from_pem(texts[2], text_lens[2], seed, 32);
+}
 static void nothing(void) { answer = 0; }
 
 /* What the system puts on the stack begins with the description of the signal. It is asked for, so that `nothing` is seen to take
@@ -134,7 +157,7 @@ int main(int count, char **words)
         {"VERIFY", hash_verify}, {"VERIFY", verify}, {"VERIFY", accepts}, {"PUBLIC_KEY", derive}, {"CHECK", check}, {"WHOLE", whole}, {"PAIR", pair},
         {"PREPARE_PUBLIC_KEY", prepare_public}, {"PREPARE_PRIVATE_KEY", prepare_private}, {"SIGN_PREPARED", sign_prepared},
         {"VERIFY_PREPARED", verify_prepared}, {"SIGN_PREPARED", hash_sign_prepared}, {"VERIFY_PREPARED", hash_verify_prepared},
-        {"SIGN_PREPARED", sign_mu_prepared}, {"VERIFY_PREPARED", verify_mu_prepared}, {"MU", pieces}, {"DER", der}};
+        {"SIGN_PREPARED", sign_mu_prepared}, {"VERIFY_PREPARED", verify_mu_prepared}, {"MU", pieces}, {"DER", der}, {"PEM", pem}};
     enum { COUNT = sizeof CALLS / sizeof *CALLS };
     int measure = count > 1 && strcmp(words[1], "measure") == 0;
     int at_most = count > 1 && strcmp(words[1], "at-most") == 0;
@@ -153,13 +176,15 @@ int main(int count, char **words)
                                        s->stack_verify, s->stack_verify, s->stack_verify, s->stack_public_key, s->stack_check, s->stack_whole,
                                        s->stack_pair, s->stack_prepare_public_key, s->stack_prepare_private_key, s->stack_sign_prepared,
                                        s->stack_verify_prepared, s->stack_sign_prepared, s->stack_verify_prepared, s->stack_sign_prepared,
-                                       s->stack_verify_prepared, MLDSA_STACK_MU, s->stack_der};
+                                       s->stack_verify_prepared, MLDSA_STACK_MU, s->stack_der, s->stack_pem};
             size_t took;
             /* What is verified was signed by the call of its name. */
             if (CALLS[i].run == verify)
                 used(sign, ROOM, 0);
             if (CALLS[i].run == hash_verify)
                 used(hash_sign, ROOM, 0);
+            if (CALLS[i].run == pem)
+                make_texts();
             if (measure) {
                 printf("%d %s %zu\n", s->number, CALLS[i].name, used(CALLS[i].run, ROOM, 0) - own);
                 continue;

@@ -40,8 +40,9 @@ test("keys that OpenSSL wrote", () => {
 test("each cut and each changed byte of a file is refused, or is another key", () => {
     const { pem: text } = ofOpenssl(44);
     const { publicKey } = readPublicKey(sets, text);
-    const reasons = new Map([[0, "it is empty"], [text.length - 1, "its last line does not end with a line feed"]]);
-    for (let end = 0; end < text.length; end++) {
+    const reasons = new Map([[0, "it is empty"]]);
+    // (without its last line feed it is the key)
+    for (let end = 0; end < text.length - 1; end++) {
         assert.throws(() => readPublicKey(sets, text.slice(0, end)), says(reasons.get(end) ?? "it is cut short"));
     }
     const bytes = utf8(text);
@@ -60,8 +61,34 @@ test("each cut and each changed byte of a file is refused, or is another key", (
                 continue;
             }
             assert.equal(read.set, 44);
-            assert.notDeepEqual(read.publicKey, publicKey);
-            assert.equal(pem(info(17, read.publicKey)), Buffer.from(changed).toString("latin1"));
+            // What spells the same key differs in white space alone, or behind the last line.
+            const symbols = (it) => Buffer.from(it).toString("latin1").split("-----").slice(0, 4).join("-----").replace(/[ \t\n\f\r]/g, "");
+            const isSame = Buffer.from(read.publicKey).equals(Buffer.from(publicKey));
+            assert.equal(symbols(changed) === symbols(bytes), isSame);
+            assert.equal(symbols(utf8(pem(info(17, read.publicKey)))), symbols(changed));
+        }
+    }
+});
+
+test("text around a key counts for nothing, nor does white space within", () => {
+    for (const number of [44, 65, 87]) {
+        const mlDsa = sets[`mlDsa${number}`];
+        const { publicKey } = mlDsa.keygen(SEED);
+        for (const [text, read, wanted] of [
+            [ofOpenssl(number).pem, (it) => readPublicKey(sets, it).publicKey, publicKey],
+            [writePrivateKey(mlDsa, SEED), (it) => readPrivateKey(sets, it).seed, SEED],
+        ]) {
+            const [first, ...lines] = text.trimEnd().split("\n");
+            const last = lines.pop();
+            for (const lax of [
+                text.slice(0, -1), text.replaceAll("\n", "\r\n"), text.replaceAll("\n", "\r"), `\n\n${text}\n`,
+                `Subject: you \u00FC\r\n${text}`, `\uFEFF${text}`, `${text}with regards\n`, `-----BEGIN${text}`,
+                text.replaceAll("\n", "\n \t"), `${first}${lines.join("")}${last}`,
+                `${first}\f \t\r\n${[...lines.join("")].join(" ")}\n${last}`,
+            ]) {
+                assert.deepEqual(read(lax), wanted, lax.slice(0, 80));
+                assert.deepEqual(read(utf8(lax)), wanted, lax.slice(0, 80));
+            }
         }
     }
 });
@@ -78,11 +105,7 @@ test("why a file is refused", () => {
         [Uint8Array.from([0x30, 129, 5]), "it seems to be DER: publicKeyFromDer of a set reads it"],
         [sets.mlDsa44.seedToDer(SEED), "it seems to be DER: publicKeyFromDer of a set reads it"],
         [utf8("0 is no key"), "it is not in PEM: no line -----BEGIN comes first"],
-        [`0${text}`, "it is not in PEM: no line -----BEGIN comes first"],
         ["a message", "it is not in PEM: no line -----BEGIN comes first"],
-        [` ${text}`, "it is not in PEM: no line -----BEGIN comes first"],
-        [`a comment\n${text}`, "it is not in PEM: no line -----BEGIN comes first"],
-        [`${text}a comment\n`, "more follows behind its end"],
         [pem(der, "\n", "PRIVATE KEY"), "it has a PRIVATE KEY, and not a PUBLIC KEY"],
         [utf8(pem(der, "\n", "ENCRYPTED PRIVATE KEY")), "it has an ENCRYPTED PRIVATE KEY, and not a PUBLIC KEY"],
         [pem(der, "\n", "RSA PRIVATE KEY").slice(0, 40), "it has an RSA PRIVATE KEY, and not a PUBLIC KEY"],
@@ -91,12 +114,12 @@ test("why a file is refused", () => {
         [pem(der, "\n", "public key"), "it has a key of another kind, or something else than a key"],
         [pem(der, "\n", "\u202EKEY"), "it has a key of another kind, or something else than a key"],
         [pem(der, "\n", "K".repeat(41)), "it has a key of another kind, or something else than a key"],
-        [`${text}\n`, "more follows behind its end"],
+        [text.slice(1), "it is not in PEM: no line -----BEGIN comes first"],
         [`${text}${text}`, "more follows behind its end"],
-        [text.replace("\n", "\r\n"), "its text is damaged"],
-        [text.replace("\n", " \n"), "its text is damaged"],
-        [text.replace(/\n(.)/, "\n\n$1"), "its text is damaged"],
-        [text.replace(/(\n.{32})/, "$1\n"), "its text is damaged"],
+        [`${text}a comment\n-----BEGIN `, "more follows behind its end"],
+        [`a comment\n${pem(der, "\n", "PRIVATE KEY")}${text}`, "it has a PRIVATE KEY, and not a PUBLIC KEY"],
+        [text.replace(/\n(.)/, "\n\v$1"), "its text is damaged"],
+        [text.replace(/\n(.)/, "\n\u00A0$1"), "its text is damaged"],
         [text.replace("-----END PUBLIC", "-----END PRIVATE"), "its text is damaged"],
         [pem([]), "its DER is cut short"],
         [pem([0x30]), "its DER is cut short"],
@@ -320,9 +343,9 @@ test("what WebCrypto of node writes is read, and what is written here it reads",
     }
 });
 
-test("that PEM is strict is said where it is read", () => {
+test("what may stand around a key is said where it is read", () => {
     for (const name of ["js/keys.d.ts", "js/README.md"]) {
         const words = text(name).replace(/[\s*`]+/g, " ");
-        assert.ok(words.includes("Strict PEM only: the file begins with -----BEGIN and ends with the line feed of its last line; mlsign also reads text around it, and mlsign convert writes the strict form"), name);
+        assert.ok(words.includes("Text may stand around a key, and white space within; a second key behind it is rejected"), name);
     }
 });

@@ -8,7 +8,7 @@ import { fileURLToPath } from "node:url";
 import test from "node:test";
 import vm from "node:vm";
 import * as all from "../mldsa.js";
-import { readPublicKey, writePublicKey } from "../keys.js";
+import { readPublicKey, writePrivateKey, writePublicKey } from "../keys.js";
 import { SEED, hex, ofOpenssl, sha256, shake, text, utf8 } from "./shared.js";
 
 const { MlDsaError, isSupported, load, oids } = all;
@@ -365,6 +365,9 @@ function everyCall(set) {
         bothToDer: [[SEED]],
         privateKeyFromDer: [[set.seedToDer(SEED)]],
         seedFromDer: [[set.seedToDer(SEED)]],
+        publicKeyFromPem: [[utf8(writePublicKey(set, publicKey))]],
+        privateKeyFromPem: [[utf8(writePrivateKey(set, SEED))]],
+        seedFromPem: [[utf8(writePrivateKey(set, SEED))]],
     };
 }
 

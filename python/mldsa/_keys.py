@@ -711,38 +711,36 @@ _PRIVATE: Dict[int, Type[PrivateKey]] = {44: MLDSA44PrivateKey, 65: MLDSA65Priva
 _PUBLIC: Dict[int, Type[PublicKey]] = {44: MLDSA44PublicKey, 65: MLDSA65PublicKey, 87: MLDSA87PublicKey}
 
 
-def _of_der(call: str, der: bytes, sizes: Dict[int, int]) -> Tuple[int, Optional[bytes]]:
-    """What a call reads of a key in DER, and the number of the key's set; nothing of a private key without a seed."""
+# What a call reads of a key in a file: the number of the key's set, and bytes.
+_Read = Tuple[int, Optional[bytes]]
+# Of each kind the call that reads it in any form, and how much that gives at each set.
+_READS: Dict[bytes, Tuple[str, Dict[int, int]]] = {
+    _files.PRIVATE: ("seed", dict.fromkeys(SETS, SEED)),
+    _files.PUBLIC: ("public_key", {number: set_.public_key for number, set_ in SETS.items()}),
+}
+
+
+def _of_file(label: bytes, call: str, given: bytes, sizes: Dict[int, int]) -> _Read:
+    """What a call reads; nothing of a private key without a seed."""
     for number, size in sizes.items():
         made = _library.room(size)
-        status = SETS[number].calls[call](der, made)
+        status = SETS[number].calls[call](given, made)
         if status != OTHER_SET:
             break
     if status not in (DONE, NO_SEED):
-        raise KeyFileError(_library.text(status))
+        raise KeyFileError(_files.sentence(label, status))
     return number, made.raw if status == DONE else None
 
 
-def _seed_of(der: bytes) -> Tuple[int, Optional[bytes]]:
-    """The set of a private key in DER, and its seed, if it has one."""
-    return _of_der("seed_from_der", der, dict.fromkeys(SETS, SEED))
-
-
-def _public_of(der: bytes) -> Tuple[int, Optional[bytes]]:
-    """The set of a public key in DER, and its bytes."""
-    return _of_der("public_key_from_der", der, {number: set_.public_key for number, set_ in SETS.items()})
-
-
-_Reads = Callable[[bytes], Tuple[int, Optional[bytes]]]
-
-
-def _read(label: bytes, der: bytes, wanted: _Reads, other: _Reads) -> Tuple[int, Optional[bytes]]:
-    """What is read of a key with this label. The error says if the DER is the other kind of key."""
+def _read(label: bytes, form: str, given: bytes) -> _Read:
+    """What is read of a key of this kind. The error says if the file has the other one."""
+    other = _files.PUBLIC if label == _files.PRIVATE else _files.PRIVATE
+    (call, sizes), (other_call, other_sizes) = _READS[label], _READS[other]
     try:
-        return wanted(der)
+        return _of_file(label, f"{call}_from_{form}", _files.checked(label, form, given), sizes)
     except KeyFileError:
         try:
-            other(der)
+            _of_file(other, f"{other_call}_from_{form}", _files.relabelled(label, other, given), other_sizes)
         except KeyFileError:
             pass
         else:
@@ -750,18 +748,18 @@ def _read(label: bytes, der: bytes, wanted: _Reads, other: _Reads) -> Tuple[int,
         raise
 
 
-def _private_key(der: bytes, password: Optional[Buffer]) -> PrivateKey:
-    number, seed = _read(_files.PRIVATE, der, _seed_of, _public_of)
+def _private_key(form: str, given: bytes, password: Optional[Buffer]) -> PrivateKey:
+    number, seed = _read(_files.PRIVATE, form, given)
     if password is not None:
         raise TypeError("a password was given, but the private key is not encrypted")
     if seed is not None:
         return _PRIVATE[number].from_seed_bytes(seed)
-    _, expanded = _of_der("private_key_from_der", der, {number: SETS[number].private_key})
+    _, expanded = _of_file(_files.PRIVATE, f"private_key_from_{form}", given, {number: SETS[number].private_key})
     return _PRIVATE[number].from_expanded_bytes(expanded or b"")
 
 
-def _public_key(der: bytes) -> PublicKey:
-    number, key = _read(_files.PUBLIC, der, _public_of, _seed_of)
+def _public_key(form: str, given: bytes) -> PublicKey:
+    number, key = _read(_files.PUBLIC, form, given)
     return _PUBLIC[number].from_public_bytes(key or b"")
 
 
@@ -774,7 +772,7 @@ def load_der_private_key(data: Buffer, password: Optional[Buffer] = None, backen
     TypeError if it is not bytes-like, or a password is given for a key that is not encrypted; KeyFileError, a
     ValueError, if it is no such key, is encrypted, or is not consistent.
     """
-    return _private_key(_files.checked_der(_files.PRIVATE, _contents(data)), password)
+    return _private_key("der", _contents(data), password)
 
 
 def load_pem_private_key(data: Buffer, password: Optional[Buffer] = None, backend: object = None) -> PrivateKey:
@@ -785,7 +783,7 @@ def load_pem_private_key(data: Buffer, password: Optional[Buffer] = None, backen
         Traceback (most recent call last):
         mldsa.KeyFileError: it is encrypted, and this library reads no encrypted keys: decrypt it by `openssl pkey`
     """
-    return _private_key(_files.decode_pem(_files.PRIVATE, _contents(data)), password)
+    return _private_key("pem", _contents(data), password)
 
 
 def load_der_public_key(data: Buffer, backend: object = None) -> PublicKey:
@@ -795,7 +793,7 @@ def load_der_public_key(data: Buffer, backend: object = None) -> PublicKey:
 
     TypeError if it is not bytes-like; KeyFileError, a ValueError, if it is no such key.
     """
-    return _public_key(_files.checked_der(_files.PUBLIC, _contents(data)))
+    return _public_key("der", _contents(data))
 
 
 def load_pem_public_key(data: Buffer, backend: object = None) -> PublicKey:
@@ -803,4 +801,4 @@ def load_pem_public_key(data: Buffer, backend: object = None) -> PublicKey:
 
         >>> public = load_pem_public_key(public.to_pem())
     """
-    return _public_key(_files.decode_pem(_files.PUBLIC, _contents(data)))
+    return _public_key("pem", _contents(data))

@@ -14,6 +14,8 @@ Array = Union[bytes, "ctypes.Array[ctypes.c_char]"]
 
 DONE, NO, KEY_RANGE, OTHER_SET, INCONSISTENT, NO_SEED = (
     NUMBERS[f"MLDSA_{it}"] for it in ("DONE", "NO", "KEY_RANGE", "OTHER_SET", "INCONSISTENT", "NO_SEED"))
+PEM_ENCRYPTED, PEM_OTHER_KIND, PEM_OTHER_LABEL = (
+    NUMBERS[f"MLDSA_PEM_{it}"] for it in ("ENCRYPTED", "OTHER_KIND", "OTHER_LABEL"))
 # Every call of Python itself takes as much stack.
 _SMALL = 4096
 
@@ -75,8 +77,8 @@ def _needed(number: int, name: str) -> int:
     stack = f"MLDSA{number}_STACK_"
     if name.startswith("mu_"):
         return NUMBERS["MLDSA_STACK_MU"]
-    if name.endswith("_der"):
-        return NUMBERS[f"{stack}DER"]
+    if name.endswith(("_der", "_pem")):
+        return NUMBERS[stack + name[-3:].upper()]
     short = {"accepts": "verify", "check_private_key": "check", "is_whole": "whole", "is_pair": "pair"}.get(name, name)
     return NUMBERS[stack + short.replace("hash_", "").replace("_mu", "").upper()]
 

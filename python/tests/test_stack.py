@@ -185,6 +185,8 @@ CALLS_OF_STACK = {
     "PREPARE_PUBLIC_KEY": "prepare_public_key", "PREPARE_PRIVATE_KEY": "prepare_private_key",
     "SIGN_PREPARED": "sign_prepared hash_sign_prepared sign_mu_prepared",
     "VERIFY_PREPARED": "verify_prepared hash_verify_prepared verify_mu_prepared",
+    "DER": "public_key_from_der seed_from_der private_key_from_der",
+    "PEM": "public_key_from_pem seed_from_pem private_key_from_pem",
 }
 
 

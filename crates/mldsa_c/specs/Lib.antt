@@ -5,4 +5,5 @@ pub mod Texts
 pub mod Pieces
 pub mod Prepared
 pub mod Der
+pub mod Pem
 pub mod Sets

@@ -6,6 +6,8 @@ use Rattle.fips204_base.specs.declared.fault.Fault.TheVariants.{KeyGenRng, SignC
 use Rattle.fips204_shake.specs.DerFaults.{sentence}
 use Rattle.fips204_shake.specs.declared.der.fault.DerFault.{DerFault}
 use Rattle.fips204_shake.specs.declared.der.fault.DerFault.TheVariants.{Short, Behind, Element, Version, OtherAlgorithm, KeyLength}
+use Rattle.fips204_shake.specs.declared.pem.fault.PemFault.{PemFault}
+use Rattle.fips204_shake.specs.declared.pem.fault.PemFault.TheVariants.{NotPem, Encrypted, Certificate, OtherKind, OtherLabel, CutShort, Behind, Damaged, TooLong}
 
 -- the status of each fault; no call has one of a generator, since the caller gives the random bytes
 abbrev pub status_of : Fault → ℕ
@@ -31,6 +33,18 @@ status_of_der Element = 17
 status_of_der Version = 18
 status_of_der OtherAlgorithm = 19
 status_of_der KeyLength = 20
+
+-- the status of each fault of PEM
+abbrev pub status_of_pem : PemFault → ℕ
+status_of_pem NotPem = 24
+status_of_pem Encrypted = 25
+status_of_pem Certificate = 26
+status_of_pem OtherKind = 27
+status_of_pem OtherLabel = 28
+status_of_pem CutShort = 29
+status_of_pem Behind = 30
+status_of_pem Damaged = 31
+status_of_pem TooLong = 20
 
 -- the text of a number that no call returns
 abbrev pub no_status : List ℕ
@@ -63,4 +77,12 @@ texts =
     codes "its key is one of another parameter set" ∷
     codes "the private key is not consistent" ∷
     codes "it has no seed: an expanded key does not reveal its seed" ∷
+    codes "it is not in PEM: no line -----BEGIN comes first" ∷
+    codes "it is encrypted: decrypt it first" ∷
+    codes "it has a certificate: take the key out of it" ∷
+    codes "it has a key of another kind" ∷
+    codes "it has something else than a key" ∷
+    codes "it is cut short" ∷
+    codes "more follows behind its end" ∷
+    codes "its text is damaged" ∷
     []

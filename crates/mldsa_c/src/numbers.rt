@@ -2,10 +2,11 @@
 #![tactic(auto)]
 
 ghost use Rattle.std.specs.Prelude.{◌≡◌};
-ghost use Rattle.mldsa_c.specs.Numbers.{status_of, status_of_der};
+ghost use Rattle.mldsa_c.specs.Numbers.{status_of, status_of_der, status_of_pem};
 
 use fips204_shake::bytes::Fault;
 use fips204_shake::der::DerFault;
+use fips204_shake::pem::PemFault;
 
 /// Done, and the arrays are written.
 pub(crate) const DONE: u32 = 0;
@@ -35,7 +36,7 @@ pub(crate) const NO_SEED: u32 = 23;
 pub(crate) const NO_STATUS: &str = "no result of this library";
 
 /// The text of each number from 0 on.
-pub(crate) const TEXTS: [&str; 24] = [
+pub(crate) const TEXTS: [&str; 32] = [
     "no error, or the result yes",
     NO_STATUS,
     "no",
@@ -60,6 +61,14 @@ pub(crate) const TEXTS: [&str; 24] = [
     "its key is one of another parameter set",
     "the private key is not consistent",
     "it has no seed: an expanded key does not reveal its seed",
+    "it is not in PEM: no line -----BEGIN comes first",
+    "it is encrypted: decrypt it first",
+    "it has a certificate: take the key out of it",
+    "it has a key of another kind",
+    "it has something else than a key",
+    "it is cut short",
+    "more follows behind its end",
+    "its text is damaged",
 ];
 
 /// The status of a fault.
@@ -94,5 +103,22 @@ pub(crate) fn status_of_der(fault: DerFault) -> u32
         DerFault::Version => 18,
         DerFault::OtherAlgorithm => 19,
         DerFault::KeyLength => 20,
+    }
+}
+
+/// The status of a fault of PEM.
+pub(crate) fn status_of_pem(fault: PemFault) -> u32
+    ensures { result ≡ status_of_pem fault }
+{
+    match fault {
+        PemFault::NotPem => 24,
+        PemFault::Encrypted => 25,
+        PemFault::Certificate => 26,
+        PemFault::OtherKind => 27,
+        PemFault::OtherLabel => 28,
+        PemFault::CutShort => 29,
+        PemFault::Behind => 30,
+        PemFault::Damaged => 31,
+        PemFault::TooLong => 20,
     }
 }

@@ -218,27 +218,12 @@ where
 /// write it.
 #[cfg(feature = "alloc")]
 mod pem {
-    use super::{Error, Named, PrivateKey, PublicKey, Seed, Set};
-    use crate::proved::fips204_shake::pem::{Kind, PemFault, read, write, written_length};
+    use super::{Error, Named, PrivateKey, PublicKey, Seed, Set, text_of};
+    use crate::proved::fips204_shake::pem::{Kind, read, write, written_length};
+    use crate::proved::mldsa_c::numbers::status_of_pem;
     use crate::wiped::WipedVec;
     use alloc::string::String;
     use alloc::vec;
-
-    /// The sentence about a text with this fault.
-    const fn sentence(fault: PemFault) -> &'static str {
-        match fault {
-            PemFault::NotPem => "it is not in PEM: no line -----BEGIN comes first",
-            PemFault::Encrypted => "it is encrypted: decrypt it first",
-            PemFault::Certificate => "it has a certificate: take the key out of it",
-            PemFault::OtherKind | PemFault::OtherLabel => {
-                "it has a key of another kind, or something else than a key"
-            }
-            PemFault::CutShort => "it is cut short",
-            PemFault::Behind => "more follows behind its end",
-            PemFault::Damaged => "its text is damaged",
-            PemFault::TooLong => "its key has a wrong length",
-        }
-    }
 
     /// The text of these bytes. It has its whole length from the start: one that grows leaves copies behind.
     fn encode(kind: Kind, der: &[u8]) -> String {
@@ -254,7 +239,8 @@ mod pem {
     fn decode(kind: Kind, text: &str) -> Result<WipedVec, &'static str> {
         // Four symbols spell three bytes.
         let mut der = WipedVec(vec![0; text.len() / 4 * 3]);
-        let len = read(kind, text.as_bytes(), &mut der.0).map_err(sentence)?;
+        let len = read(kind, text.as_bytes(), &mut der.0)
+            .map_err(|fault| text_of(status_of_pem(fault)))?;
         der.0.truncate(len);
         Ok(der)
     }
