@@ -1,9 +1,7 @@
 //! Keys in PEM (RFC 7468): what the exports of each set do.
 #![tactic(auto)]
 
-ghost use Rattle.std.specs.Prelude.{◌≡◌, ◌≤◌, length, take, IfOk};
-ghost use Rattle.fips204_shake.specs.declared.pem.Kind.TheVariants.{Public, Private};
-ghost use Rattle.mldsa_c.specs.Pem.{IfSpelled, PublicKeyFromPem, PrivateKeyFromPem, SeedFromPem};
+ghost use Rattle.mldsa_c.specs.Pem.{PublicKeyFromPem, PrivateKeyFromPem, SeedFromPem};
 
 use crate::der;
 use crate::numbers::{WRONG_LENGTH, status_of_pem};

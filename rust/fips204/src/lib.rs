@@ -90,7 +90,7 @@ pub mod ml_dsa_44 {
         VERIFY_PREPARED: 43_008,
         PREPARE_PRIVATE_KEY: 63_488,
         SIGN_PREPARED: 115_712,
-        DER: 78_848,
+        DER: 80_896,
     );
 }
 
@@ -111,7 +111,7 @@ pub mod ml_dsa_65 {
         VERIFY_PREPARED: 51_200,
         PREPARE_PRIVATE_KEY: 97_280,
         SIGN_PREPARED: 152_576,
-        DER: 111_616,
+        DER: 113_664,
     );
 }
 
@@ -132,7 +132,7 @@ pub mod ml_dsa_87 {
         VERIFY_PREPARED: 66_560,
         PREPARE_PRIVATE_KEY: 143_360,
         SIGN_PREPARED: 208_896,
-        DER: 149_504,
+        DER: 151_552,
     );
 }
 
