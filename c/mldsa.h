@@ -1192,7 +1192,7 @@ MLDSA_INLINE const char *mldsa_text(uint32_t status)
     case MLDSA_PEM_ENCRYPTED: return "it is encrypted: decrypt it first";
     case MLDSA_PEM_CERTIFICATE: return "it has a certificate: take the key out of it";
     case MLDSA_PEM_OTHER_KIND: return "it has a key of another kind";
-    case MLDSA_PEM_OTHER_LABEL: return "it has something else than a key";
+    case MLDSA_PEM_OTHER_LABEL: return "it has a key of another kind, or something else than a key";
     case MLDSA_PEM_CUT_SHORT: return "it is cut short";
     case MLDSA_PEM_TRAILING: return "more follows behind its end";
     case MLDSA_PEM_DAMAGED: return "its text is damaged";

@@ -54,7 +54,7 @@ const STATUSES = {
     PEM_ENCRYPTED: [25, "it is encrypted: decrypt it first"],
     PEM_CERTIFICATE: [26, "it has a certificate: take the key out of it"],
     PEM_OTHER_KIND: [27, "it has a key of another kind"],
-    PEM_OTHER_LABEL: [28, "it has something else than a key"],
+    PEM_OTHER_LABEL: [28, "it has a key of another kind, or something else than a key"],
     PEM_CUT_SHORT: [29, "it is cut short"],
     PEM_TRAILING: [30, "more follows behind its end"],
     PEM_DAMAGED: [31, "its text is damaged"],

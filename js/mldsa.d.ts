@@ -50,7 +50,7 @@ export type ErrorCode =
     | "PEM_CERTIFICATE"
     /** it has a key of another kind */
     | "PEM_OTHER_KIND"
-    /** it has something else than a key */
+    /** it has a key of another kind, or something else than a key */
     | "PEM_OTHER_LABEL"
     /** it is cut short */
     | "PEM_CUT_SHORT"

@@ -81,7 +81,7 @@ texts =
     codes "it is encrypted: decrypt it first" ∷
     codes "it has a certificate: take the key out of it" ∷
     codes "it has a key of another kind" ∷
-    codes "it has something else than a key" ∷
+    codes "it has a key of another kind, or something else than a key" ∷
     codes "it is cut short" ∷
     codes "more follows behind its end" ∷
     codes "its text is damaged" ∷

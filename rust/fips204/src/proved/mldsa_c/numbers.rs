@@ -62,7 +62,7 @@ pub(crate) const TEXTS: [&str; 32] = [
     "it is encrypted: decrypt it first",
     "it has a certificate: take the key out of it",
     "it has a key of another kind",
-    "it has something else than a key",
+    "it has a key of another kind, or something else than a key",
     "it is cut short",
     "more follows behind its end",
     "its text is damaged",
