@@ -463,10 +463,7 @@ mod pem {
                     &of("CERTIFICATE"),
                     "it has a certificate: take the key out of it",
                 ),
-                (
-                    &of("PUBLIC KEY"),
-                    "it has a key of another kind, or something else than a key",
-                ),
+                (&of("PUBLIC KEY"), "it has a key of another kind"),
                 (
                     &of("EC PRIVATE KEY"),
                     "it has a key of another kind, or something else than a key",
