@@ -65,7 +65,7 @@ macro_rules! tests_of_a_set {
                         }
                     }
                 }
-                let another = "it has a key of another kind, or something else than a key";
+                let another = "it has a key of another kind";
                 assert_eq!(Seed::from_pem(&public_pem).unwrap_err().as_str(), another);
                 for wrong in ["", "x", &public_pem, &seed_pem[1..], &seed_pem[..60]] {
                     assert!(PrivateKey::from_pem(wrong).is_err());
