@@ -79,18 +79,18 @@ pub mod ml_dsa_44 {
     crate::set::parameter_set!("ml_dsa_44", MlDsa44, 1312, 2560, 2420);
     crate::prepared::prepared_keys!("ml_dsa_44", 17760, 18944);
     crate::set::stack!(
-        KEYGEN: 54_272,
+        KEYGEN: 55_296,
         SIGN: 115_712,
         VERIFY: 52_224,
         PUBLIC_KEY: 88_064,
         CHECK: 49_152,
         WHOLE: 72_704,
         PAIR: 75_776,
-        PREPARE_PUBLIC_KEY: 39_936,
+        PREPARE_PUBLIC_KEY: 40_960,
         VERIFY_PREPARED: 43_008,
         PREPARE_PRIVATE_KEY: 63_488,
         SIGN_PREPARED: 115_712,
-        DER: 80_896,
+        DER: 81_920,
     );
 }
 
@@ -109,7 +109,7 @@ pub mod ml_dsa_65 {
         PAIR: 108_544,
         PREPARE_PUBLIC_KEY: 74_752,
         VERIFY_PREPARED: 51_200,
-        PREPARE_PRIVATE_KEY: 97_280,
+        PREPARE_PRIVATE_KEY: 98_304,
         SIGN_PREPARED: 152_576,
         DER: 113_664,
     );
@@ -121,9 +121,9 @@ pub mod ml_dsa_87 {
     crate::set::parameter_set!("ml_dsa_87", MlDsa87, 2592, 4896, 4627);
     crate::prepared::prepared_keys!("ml_dsa_87", 60000, 62240);
     crate::set::stack!(
-        KEYGEN: 91_136,
+        KEYGEN: 92_160,
         SIGN: 208_896,
-        VERIFY: 78_848,
+        VERIFY: 79_872,
         PUBLIC_KEY: 168_960,
         CHECK: 92_160,
         WHOLE: 137_216,
